@@ -1,0 +1,1 @@
+// The four texts of a profile.

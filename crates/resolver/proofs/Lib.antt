@@ -1,0 +1,5 @@
+pub mod Updates
+pub mod Layouts
+pub mod Firings
+pub mod Joined
+pub mod Answers

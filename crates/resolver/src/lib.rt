@@ -1,0 +1,1 @@
+// The resolve of a rules file for a profile.

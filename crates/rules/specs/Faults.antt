@@ -1,0 +1,73 @@
+-- The refusals of a file's lines, in file order, each line's lowest number: of these the first counts. Document 01, "Refusal numbers".
+use Prim.Native.Nat.{ℕ, _+_}
+use mathlib.Core.List.{List, [], _∷_, _++_, map}
+use mathlib.Core.Bool.{Bool, _||_, _&&_, cond}
+use lib.ListN.{length, getD, take, drop}
+use lib.Dec.{eqb, ltb, leb}
+use Rattle.text.specs.declared.Refusal.{Refusal}
+use Rattle.text.specs.Limits.{longestFile, mostGroups}
+use Rattle.text.specs.Bytes.{Text, Words, same, allOf, anyOf, concatMap}
+use Rattle.text.specs.Refusals.{refusedIf, refusedAs}
+use Rattle.text.specs.Lines.{lines}
+use Rattle.rules.specs.Words.{isEquals, ordinary, leftWord}
+use Rattle.rules.specs.Percent.{malformed}
+use Rattle.rules.specs.Headings.{Heading, hasWord}
+use Rattle.rules.specs.Sections.{Rule, Head, bad, defines, applies, Section, sections}
+
+-- groups "defined earlier in the file", the last first
+pub record Group : Type 0 where
+  pub name : Text
+  pub members : Words
+
+abbrev pub Groups : Type 0
+Groups = List Group
+
+unfoldable pub defined : Groups → Text → Bool
+defined gs n = anyOf (λ g. same n (g .name)) gs
+
+-- the groups after a heading, and after sections
+unfoldable pub withGroup : Head → Groups → Groups
+withGroup (bad k) gs = gs
+withGroup (defines g ms) gs = record { name = g; members = ms } ∷ gs
+withGroup (applies h) gs = gs
+
+unfoldable pub groupsAfter : Groups → List Section → Groups
+groupsAfter gs [] = gs
+groupsAfter gs (s ∷ ss) = groupsAfter (withGroup (s .head) gs) ss
+
+-- "as many left words as the heading has left items, `=`, as many right words"
+unfoldable pub leftWords : Heading → Words → Words
+leftWords h ws = take (length (h .columns)) ws
+
+unfoldable pub rightWords : Heading → Words → Words
+rightWords h ws = drop (length (h .columns) + 1) ws
+
+unfoldable pub ruleShape : Heading → Words → Bool
+ruleShape h ws =
+    eqb (length ws) (length (h .columns) + 1 + length (h .components)) &&
+    (allOf leftWord (leftWords h ws) && (isEquals (getD ws (length (h .columns)) []) && allOf ordinary (rightWords h ws)))
+
+-- "rule with a wrong word, word count or `=`": 6. "malformed percent item": 8
+unfoldable pub ruleFault : Heading → Words → ℕ
+ruleFault h ws = cond (ruleShape h ws) (cond (anyOf (malformed (hasWord (h .index))) (rightWords h ws)) 8 0) 6
+
+-- "rule before any set heading, or after a group line with no new heading"
+unfoldable pub orphans : List Rule → List Refusal
+orphans rs = map (λ r. record { number = 6; place = r .number }) rs
+
+-- "group defined twice, or a 65th": 10
+unfoldable pub headFaults : Groups → ℕ → Head → List Rule → List Refusal
+headFaults gs n (bad k) rs = record { number = k; place = n } ∷ orphans rs
+headFaults gs n (defines g ms) rs = refusedIf (defined gs g || leb mostGroups (length gs)) 10 n ++ orphans rs
+headFaults gs n (applies h) rs = concatMap (λ r. refusedAs (ruleFault h (r .text)) (r .number)) rs
+
+unfoldable pub faults : Groups → List Section → List Refusal
+faults gs [] = []
+faults gs (s ∷ ss) = headFaults gs (s .number) (s .head) (s .rules) ++ faults (withGroup (s .head) gs) ss
+
+unfoldable pub lineFaults : Text → List Refusal
+lineFaults f = let s = sections (lines f) in orphans (s .0) ++ faults [] (s .1)
+
+-- "3, then the first bad line". "All lines are checked, also in sets that don't apply."
+unfoldable pub fileRefusals : Text → List Refusal
+fileRefusals f = refusedIf (ltb longestFile (length f)) 3 0 ++ lineFaults f

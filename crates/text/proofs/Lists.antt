@@ -1,0 +1,112 @@
+-- Laws of tests and lists that the crates above share.
+use Prim.Native.Nat.{ℕ}
+use native.Mathlib.Omega.{arith}
+use mathlib.Core.Path.{_≡_, refl, sym, ap, _∙_}
+use mathlib.Core.List.{List, [], _∷_, _++_, map, append-assoc}
+use mathlib.Core.Bool.{Bool, true, false, not, _||_, _&&_, cond}
+use lib.Dec.{eqb}
+use borrow.Author.Tests.{eqb-true}
+use Rattle.text.specs.Bytes.{Text, same, allOf, anyOf, concatMap, among, apart}
+
+-- tests
+
+pub no : false ≡ true → ⊥
+no e = let z : _≡_ {A = ℕ} 0 1 = cc in omega arith
+
+pub not-true : (t : Bool) → not t ≡ true → t ≡ false
+not-true true h = absurd (no h)
+not-true false h = refl
+
+pub and-both : (a b : Bool) → a && b ≡ true → (a ≡ true) × (b ≡ true)
+and-both true b h = (refl, h)
+and-both false b h = absurd (no h)
+
+pub both-and : (a b : Bool) → a ≡ true → b ≡ true → a && b ≡ true
+both-and true b h k = k
+both-and false b h k = absurd (no h)
+
+pub or-right : (a b : Bool) → b ≡ true → a || b ≡ true
+or-right true b h = refl
+or-right false b h = h
+
+pub or-cases : {C : Type 0} (a b : Bool) → a || b ≡ true → (a ≡ true → C) → (b ≡ true → C) → C
+or-cases true b h f g = f refl
+or-cases false b h f g = g h
+
+pub both-ways : (s t : Bool) → (s ≡ true → t ≡ true) → (t ≡ true → s ≡ true) → s ≡ t
+both-ways true t f g = sym (f refl)
+both-ways false true f g = g refl
+both-ways false false f g = refl
+
+-- texts
+
+pub same-eq : (s t : Text) → same s t ≡ true → s ≡ t
+unfolding same
+same-eq [] [] h = refl
+same-eq [] (c ∷ t) h = absurd (no h)
+same-eq (b ∷ s) [] h = absurd (no h)
+same-eq (b ∷ s) (c ∷ t) h =
+    let w = and-both (eqb b c) (same s t) h in
+    let x : b ≡ c = eqb-true b c (w .0) in
+    let y : s ≡ t = same-eq s t (w .1) in
+    cc
+
+-- lists
+
+pub nil-left {ℓ} : {A : Type ℓ} (a b : List A) → a ++ b ≡ [] → a ≡ []
+nil-left [] b h = refl
+nil-left (x ∷ a) b h = cc
+
+pub nil-right {ℓ} : {A : Type ℓ} (a b : List A) → a ++ b ≡ [] → b ≡ []
+nil-right [] b h = h
+nil-right (x ∷ a) b h = cc
+
+pub map-append {ℓ κ} : {A : Type ℓ} {B : Type κ} (f : A → B) (a b : List A) → map f (a ++ b) ≡ map f a ++ map f b
+map-append f [] b = refl
+map-append f (x ∷ a) b = rw (map-append f a b)
+
+pub concat-append {ℓ κ} : {A : Type ℓ} {B : Type κ} (f : A → List B) (a b : List A) → concatMap f (a ++ b) ≡ concatMap f a ++ concatMap f b
+unfolding concatMap
+concat-append f [] b = refl
+concat-append f (x ∷ a) b = rw (concat-append f a b, append-assoc)
+
+pub map-concat {ℓ κ μ} : {A : Type ℓ} {B : Type κ} {C : Type μ} (f : B → C) (g : A → List B) (g′ : A → List C) (l : List A) →
+    ((x : A) → g′ x ≡ map f (g x)) → concatMap g′ l ≡ map f (concatMap g l)
+unfolding concatMap
+map-concat f g g′ [] h = refl
+map-concat f g g′ (x ∷ l) h = rw (h x, map-concat f g g′ l h, map-append)
+
+pub all-append {ℓ} : {A : Type ℓ} (q : A → Bool) (a b : List A) → allOf q a ≡ true → allOf q b ≡ true → allOf q (a ++ b) ≡ true
+unfolding allOf
+all-append q [] b h k = k
+all-append q (x ∷ a) b h k = let w = and-both (q x) (allOf q a) h in rw (w .0) (all-append q a b (w .1) k)
+
+pub all-concat {ℓ κ} : {A : Type ℓ} {B : Type κ} (q : B → Bool) (f : A → List B) (l : List A) →
+    ((a : A) → allOf q (f a) ≡ true) → allOf q (concatMap f l) ≡ true
+unfolding allOf concatMap
+all-concat q f [] h = refl
+all-concat q f (a ∷ l) h = all-append q (f a) (concatMap f l) (h a) (all-concat q f l h)
+
+pub all-cond {ℓ} : {A : Type ℓ} (q : A → Bool) (t : Bool) (a b : List A) → allOf q a ≡ true → allOf q b ≡ true → allOf q (cond t a b) ≡ true
+all-cond q true a b h k = h
+all-cond q false a b h k = k
+
+-- a test that some text of one list passes, some text of a list that holds all of them passes
+
+found-in : (q : Text → Bool) (x : Text) (b : List Text) → q x ≡ true → anyOf (same x) b ≡ true → anyOf q b ≡ true
+unfolding anyOf
+found-in q x [] e h = absurd (no h)
+found-in q x (y ∷ b) e h =
+    or-cases (same x y) (anyOf (same x) b) h
+    (λ s. let z : q y ≡ true = sym (ap q (same-eq x y s)) ∙ e in rw z)
+    (λ s. or-right (q y) (anyOf q b) (found-in q x b e s))
+
+pub any-among : (q : Text → Bool) (a b : List Text) → among a b ≡ true → anyOf q a ≡ true → anyOf q b ≡ true
+unfolding among allOf anyOf
+any-among q [] b h e = absurd (no e)
+any-among q (x ∷ a) b h e =
+    let w = and-both (anyOf (same x) b) (among a b) h in
+    or-cases (q x) (anyOf q a) e (λ s. found-in q x b s (w .0)) (λ s. any-among q a b (w .1) s)
+
+pub any-alike : (q : Text → Bool) (a b : List Text) → among a b ≡ true → among b a ≡ true → anyOf q a ≡ anyOf q b
+any-alike q a b h k = both-ways (anyOf q a) (anyOf q b) (any-among q a b h) (any-among q b a k)

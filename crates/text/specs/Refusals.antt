@@ -1,0 +1,14 @@
+-- Refusals as lists, of which the first counts: nothing is refused where the list is empty.
+use Prim.Native.Nat.{ℕ}
+use mathlib.Core.List.{List, [], _∷_}
+use mathlib.Core.Bool.{Bool, not, cond}
+use lib.Dec.{eqb}
+use Rattle.text.specs.declared.Refusal.{Refusal}
+
+-- a number at a place, where a test holds
+unfoldable pub refusedIf : Bool → ℕ → ℕ → List Refusal
+refusedIf t n p = cond t (record { number = n; place = p } ∷ []) []
+
+-- a number at a place, where the number is not 0
+unfoldable pub refusedAs : ℕ → ℕ → List Refusal
+refusedAs n p = refusedIf (not (eqb n 0)) n p

@@ -1,0 +1,1 @@
+// Right-hand values, expanded for a profile and a layout.
