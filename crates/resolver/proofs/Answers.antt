@@ -1,25 +1,30 @@
--- The answers of joined files, and of profiles with the same options.
-use Prim.Native.Nat.{ℕ, _+_, _≤_}
+-- What every answer is; the answers of joined files, and of profiles with the same options.
+use Prim.Native.Nat.{ℕ, zero, suc, _+_, _≤_}
+use native.Mathlib.Omega.{arith}
 use mathlib.Core.Path.{_≡_, refl, sym, ap, _∙_}
 use mathlib.Core.List.{List, [], _∷_, _++_, map}
-use mathlib.Core.Bool.{Bool, true}
+use mathlib.Core.Bool.{Bool, true, false, _||_, _&&_, cond}
 use lib.ListN.{length}
-use lib.Dec.{ltb}
-use borrow.Author.Tests.{le-ltb}
+use lib.Dec.{ltb, leb}
+use borrow.Author.Tests.{le-ltb, ltb-false, leb-true}
 use Rattle.text.specs.declared.Refusal.{Refusal}
 use Rattle.text.specs.Limits.{longestFile, longestTotal, mostGroups}
-use Rattle.text.specs.Bytes.{Text, apart}
+use Rattle.text.specs.Bytes.{Text, allOf, apart}
 use Rattle.text.specs.Lines.{closed}
-use Rattle.text.specs.Refusals.{refusedIf}
-use Rattle.text.proofs.Lists.{nil-left, nil-right}
-use Rattle.profile.specs.Profile.{Texts}
+use Rattle.text.specs.Refusals.{refusedIf, isNumber, hasNumber}
+use Rattle.text.proofs.Lists.{no, and-both, all-append, nil-left, nil-right}
+use Rattle.text.proofs.Numbers.{if-number}
+use Rattle.profile.specs.Profile.{Texts, profileOf}
 use Rattle.profile.specs.Options.{Alike, Within, withOptions}
 use Rattle.profile.specs.Refusals.{profileRefusals}
 use Rattle.profile.proofs.Options.{same-profile, same-refusals}
+use Rattle.profile.proofs.Numbers.{profile-numbers}
 use Rattle.rules.specs.Faults.{Group, lineFaults, fileRefusals}
 use Rattle.rules.specs.Names.{groupsOf, definesOf, namesOf}
 use Rattle.rules.proofs.Joined.{joined-lines}
-use Rattle.resolver.specs.Answer.{tenTexts, total, noRoom, refusals, Answer, refused, accepted, firstOf, answer}
+use Rattle.rules.proofs.Numbers.{file-numbers}
+use Rattle.resolver.specs.Firings.{Firing, fileFirings}
+use Rattle.resolver.specs.Answer.{textsFrom, tenTexts, total, noRoom, refusals, Answer, refused, accepted, firstOf, answer, Answered}
 use Rattle.resolver.specs.Joined.{together}
 use Rattle.resolver.proofs.Joined.{joined-texts}
 
@@ -28,6 +33,53 @@ pub accepted-first : (rs : List Refusal) (ts us : List Text) → firstOf rs ts �
 unfolding firstOf
 accepted-first [] ts us h = (refl, cc)
 accepted-first (r ∷ rs) ts us h = (cc, cc)
+
+-- every answer is ten texts that fit, or a refusal with a number
+
+ten : (c n : ℕ) (fs : List Firing) → length (textsFrom c n fs) ≡ n + n
+unfolding textsFrom
+ten c zero fs = refl
+ten c (suc n) fs = let e : length (textsFrom (suc c) n fs) ≡ n + n = ten (suc c) n fs in omega arith
+
+ten-texts : (f : Text) (t : Texts) → length (tenTexts f t) ≡ 10
+unfolding tenTexts
+ten-texts f t = ten 0 5 (fileFirings f (profileOf t))
+
+numbers : (room : ℕ) (f : Text) (t : Texts) → allOf hasNumber (refusals room f t) ≡ true
+unfolding refusals isNumber
+numbers room f t =
+    all-append hasNumber (profileRefusals t) _ (profile-numbers t)
+    (all-append hasNumber (fileRefusals f) _ (file-numbers f) (if-number _ 11 0 refl))
+
+fits : (t : Bool) (n p : ℕ) → refusedIf t n p ≡ [] → t ≡ false
+unfolding refusedIf
+fits true n p h = cc
+fits false n p h = refl
+
+neither : (a b : Bool) → a || b ≡ false → (a ≡ false) × (b ≡ false)
+neither true b h = absurd (no (sym h))
+neither false b h = (refl, h)
+
+accepted-fits : (room : ℕ) (f : Text) (t : Texts) → refusals room f t ≡ [] → Answered room (firstOf [] (tenTexts f t))
+unfolding refusals noRoom firstOf Answered
+accepted-fits room f t e =
+    let k = fits (noRoom room (total (tenTexts f t))) 11 0 (nil-right (fileRefusals f) _ (nil-right (profileRefusals t) _ e)) in
+    let w = neither (ltb room (total (tenTexts f t))) (ltb longestTotal (total (tenTexts f t))) k in
+    (ten-texts f t, ltb-false room _ (w .0), ltb-false longestTotal _ (w .1))
+
+refused-number : (room : ℕ) (r : Refusal) (rs : List Refusal) (ts : List Text) → allOf hasNumber (r ∷ rs) ≡ true → Answered room (firstOf (r ∷ rs) ts)
+unfolding allOf hasNumber isNumber firstOf Answered
+refused-number room r rs ts h =
+    let w = and-both (leb 1 (r .number)) (leb (r .number) 11) (and-both (hasNumber r) (allOf hasNumber rs) h .0) in
+    (leb-true 1 (r .number) (w .0), leb-true (r .number) 11 (w .1))
+
+pub answered : (room : ℕ) (f : Text) (t : Texts) → Answered room (answer room f t)
+unfolding answer
+answered room f t = go (refusals room f t) refl (numbers room f t)
+  where
+    go : (rs : List Refusal) → refusals room f t ≡ rs → allOf hasNumber rs ≡ true → Answered room (firstOf rs (tenTexts f t))
+    go [] e h = accepted-fits room f t e
+    go (r ∷ rs) e h = refused-number room r rs (tenTexts f t) h
 
 length-names : (gs : List Group) → length (map (λ g. g .name) gs) ≡ length gs
 length-names [] = refl

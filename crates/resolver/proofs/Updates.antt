@@ -4,7 +4,7 @@ use mathlib.Core.Path.{_≡_, refl, sym, ap, _∙_}
 use mathlib.Core.List.{List, [], _∷_, _++_, append-assoc, append-nil}
 use mathlib.Core.Bool.{Bool, true, false, not, _||_, _&&_, cond}
 use lib.Dec.{eqb}
-use Rattle.text.specs.Bytes.{Text, empty, first, allOf}
+use Rattle.text.specs.Bytes.{Text, bytes, empty, first, allOf}
 use Rattle.text.proofs.Lists.{no, and-both}
 use Rattle.values.specs.Spread.{isSign, signed}
 use Rattle.resolver.specs.Firings.{Firing}
@@ -12,6 +12,16 @@ use Rattle.resolver.specs.Components.{update, updates, base, additions, 
 
 abbrev pub nonEmpty : Text → Bool
 nonEmpty v = not (empty v)
+
+-- "`+a`, `b`, `+c` read from the right would give `b+c+a`"
+in-order : updates [] (bytes "+a" ∷ bytes "b" ∷ bytes "+c" ∷ []) ≡ bytes "b+a+c"
+unfolding updates update signed isSign first empty bytes
+in-order = refl
+
+-- "the first plain value (the base)": no later one replaces it
+first-plain : (v : Text) (vs : List Text) → signed v ≡ false → base (v ∷ vs) ≡ v
+unfolding base
+first-plain v vs h = rw h
 
 -- clauses
 add-cons : (v : Text) (vs : List Text) → additions (v ∷ vs) ≡ cond (signed v) v [] ++ additions vs

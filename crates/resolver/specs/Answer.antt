@@ -1,5 +1,6 @@
 -- The answer of a resolve, and the buffer after it. Document 01, "Base and additions" and "Refusal numbers".
-use Prim.Native.Nat.{ℕ, zero, suc, _+_, _*_, _-_}
+use Prim.Native.Nat.{ℕ, zero, suc, _+_, _*_, _-_, _≤_}
+use mathlib.Core.Path.{_≡_}
 use mathlib.Core.List.{List, [], _∷_, _++_, map}
 use mathlib.Core.Bool.{Bool, _||_, cond}
 use lib.ListN.{length, take, drop, replicate}
@@ -82,3 +83,8 @@ stretchLength ns c = stretchStart ns (c + 1) - stretchStart ns c
 
 unfoldable pub stretch : Text → List ℕ → ℕ → Text
 stretch d ns c = cond (ltb 4 c || ltb (length d) (sum ns)) [] (take (stretchLength ns c) (drop (stretchStart ns c) d))
+
+-- What every answer is: ten texts that fit, or a refusal with a number of document 01.
+unfoldable pub Answered : ℕ → Answer → Type 0
+Answered room (accepted ts) = (length ts ≡ 10) × (total ts ≤ room) × (total ts ≤ longestTotal)
+Answered room (refused r) = (1 ≤ r .number) × (r .number ≤ 11)

@@ -6,12 +6,12 @@ use mathlib.Core.List.{List, [], _∷_, _++_, map}
 use mathlib.Core.Bool.{Bool, true, false, not, _||_, _&&_, cond}
 use lib.ListN.{length, getD, length-append}
 use lib.Dec.{eqb, leb}
-use borrow.Author.Tests.{lt-leb, eqb-true}
+use borrow.Author.Tests.{lt-leb, eqb-true, not-true}
 use Rattle.text.specs.Limits.{mostGroups}
 use Rattle.text.specs.declared.Refusal.{Refusal}
 use Rattle.text.specs.Bytes.{Text, Words, same, empty, first, rest, allOf, anyOf, concatMap, apart}
 use Rattle.text.specs.Refusals.{refusedIf, refusedAs}
-use Rattle.text.proofs.Lists.{no, not-true, and-both, both-and, nil-left, nil-right}
+use Rattle.text.proofs.Lists.{no, and-both, both-and, nil-left, nil-right}
 use Rattle.rules.specs.Words.{isEquals, isStar, hasDollar, ordinary, isGroupName, leftWord}
 use Rattle.rules.specs.Percent.{malformed}
 use Rattle.rules.specs.Headings.{Heading, hasWord}

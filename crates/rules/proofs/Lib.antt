@@ -1,3 +1,4 @@
 pub mod Shifted
 pub mod Fresh
 pub mod Joined
+pub mod Numbers

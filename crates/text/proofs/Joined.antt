@@ -6,6 +6,7 @@ use mathlib.Core.Path.{_≡_, refl, sym, ap, _∙_}
 use mathlib.Core.List.{List, [], _∷_, _++_, map}
 use mathlib.Core.Bool.{Bool, true, false, cond}
 use lib.Dec.{eqb}
+use borrow.Author.Tests.{not-true}
 use Rattle.text.specs.declared.Class.{Class}
 use Rattle.text.specs.declared.Class.the-variants.{Blank, Join, Slashes, Bang, Other}
 use Rattle.text.specs.declared.Place.{Place}
@@ -13,7 +14,7 @@ use Rattle.text.specs.declared.Place.the-variants.{Start, Space, Word, C
 use Rattle.text.specs.Bytes.{first}
 use Rattle.text.specs.Marks.{classOf, Mark, char, gap, join, bang, end, atFeed, atOther, step, marks}
 use Rattle.text.specs.Lines.{run, words, heading, Line, feeds, inside, linesOf, lines, closedFrom, closed}
-use Rattle.text.proofs.Lists.{no, not-true}
+use Rattle.text.proofs.Lists.{no}
 
 run-append : (a b : List Mark) → closedFrom true a ≡ true → run (a ++ b) ≡ run a
 unfolding run closedFrom inside

@@ -13,10 +13,6 @@ use Rattle.text.specs.Bytes.{Text, same, allOf, anyOf, concatMap, among,
 pub no : false ≡ true → ⊥
 no e = let z : _≡_ {A = ℕ} 0 1 = cc in omega arith
 
-pub not-true : (t : Bool) → not t ≡ true → t ≡ false
-not-true true h = absurd (no h)
-not-true false h = refl
-
 pub and-both : (a b : Bool) → a && b ≡ true → (a ≡ true) × (b ≡ true)
 and-both true b h = (refl, h)
 and-both false b h = absurd (no h)

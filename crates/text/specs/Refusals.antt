@@ -1,8 +1,8 @@
 -- Refusals as lists, of which the first counts: nothing is refused where the list is empty.
 use Prim.Native.Nat.{ℕ}
 use mathlib.Core.List.{List, [], _∷_}
-use mathlib.Core.Bool.{Bool, not, cond}
-use lib.Dec.{eqb}
+use mathlib.Core.Bool.{Bool, not, _&&_, cond}
+use lib.Dec.{eqb, leb}
 use Rattle.text.specs.declared.Refusal.{Refusal}
 
 -- a number at a place, where a test holds
@@ -12,3 +12,10 @@ refusedIf t n p = cond t (record { number = n; place = p } ∷ []) []
 -- a number at a place, where the number is not 0
 unfoldable pub refusedAs : ℕ → ℕ → List Refusal
 refusedAs n p = refusedIf (not (eqb n 0)) n p
+
+-- the numbers of document 01
+unfoldable pub isNumber : ℕ → Bool
+isNumber n = leb 1 n && leb n 11
+
+unfoldable pub hasNumber : Refusal → Bool
+hasNumber r = isNumber (r .number)

@@ -1,0 +1,82 @@
+-- The marked examples of document 01, "Checked examples": one table, and one theorem over it by computation.
+use Prim.Native.Nat.{ℕ}
+use Prim.Native.String.{String}
+use mathlib.Core.Path.{_≡_, refl}
+use mathlib.Core.List.{List, [], _∷_, _++_, map}
+use Rattle.text.specs.Bytes.{bytes, same, empty, first, rest, allOf, anyOf, concatMap, Text}
+use Rattle.text.specs.Lines.{run, words, heading, feeds, inside, linesOf, lines}
+use Rattle.text.specs.Marks.{classOf, step, marks}
+use Rattle.text.specs.Refusals.{refusedIf, refusedAs}
+use Rattle.text.specs.Words.{badByte, tooLong, wordsFault}
+use Rattle.profile.specs.Profile.{push, fields, dropEmpty, optionsOf, profileOf, layoutCount, Texts}
+use Rattle.profile.specs.Refusals.{outside, longField, badText, textRefusals, countRefusals, profileRefusals}
+use Rattle.rules.specs.Entries.{before, after, setShape, setEntry, groupEntry, headingEntry, ruleEntry, entryOf}
+use Rattle.rules.specs.Faults.{defined, withGroup, leftWords, rightWords, ruleShape, ruleFault, orphans, headFaults, faults, lineFaults, fileRefusals}
+use Rattle.rules.specs.Headings.{decimal, upFrom, numberedIn, indexOf, leftItem, componentOf, columnsIn, indexesIn, columnNumber, indexNumber, knownIndex, knownItem, distinct, alike, firstIndex, headingOf, goodItems, hasWord}
+use Rattle.rules.specs.Percent.{whichOf, variableOf, whichLength, variableLength, isPrefix, inParens, pieceAfter, pieceLength, pieces, badWhich, badVariable, badPiece, malformed}
+use Rattle.rules.specs.Sections.{addEntry, sections}
+use Rattle.rules.specs.Words.{isEquals, isStar, hasDollar, ordinary, isGroupName, leftWord}
+use Rattle.values.specs.Spread.{isSign, signed, cuts, endsAll, stem, copy, copies, spread, expanded}
+use Rattle.values.specs.Values.{choose, valueOf, pieceText, filled}
+use Rattle.resolver.specs.Answer.{textsFrom, tenTexts, sum, joined, total, noRoom, refusals, firstOf, answer, Answer, refused, accepted}
+use Rattle.resolver.specs.Components.{valuesOf, base, additions}
+use Rattle.resolver.specs.Firings.{fired, ruleFires, setFires, headFires, firings, fileFirings}
+use Rattle.resolver.specs.Layouts.{layoutsAt, perLayout, layoutsOf}
+use Rattle.resolver.specs.Matching.{members, wordMatches, valueMatches, columnMatches, ruleMatches, isOptions}
+
+-- the five strings, or the number and the place
+pub data Outcome : Type 0 where
+  strings : List Text → Outcome
+  refusal : ℕ → ℕ → Outcome
+
+-- base and additions together
+unfoldable pub pairs : List Text → List Text
+pairs [] = []
+pairs (b ∷ []) = []
+pairs (b ∷ a ∷ r) = (b ++ a) ∷ pairs r
+
+unfoldable pub outcome : Answer → Outcome
+outcome (accepted ts) = strings (pairs ts)
+outcome (refused r) = refusal (r .number) (r .place)
+
+-- the buffer's length, the file, layouts and variants
+pub record Example : Type 0 where
+  pub room : ℕ
+  pub file : String
+  pub layouts : String
+  pub variants : String
+  pub wanted : Outcome
+
+unfoldable pub resolved : Example → Outcome
+resolved e =
+    outcome (answer (e .room) (bytes (e .file)) (record { model = []; layouts = bytes (e .layouts); variants = bytes (e .variants); options = [] }))
+
+-- symbols for the layouts, with room enough
+unfoldable pub symbols : String → String → String → String → Example
+symbols f l v w = record { room = 65536; file = f; layouts = l; variants = v; wanted = strings ([] ∷ [] ∷ [] ∷ bytes w ∷ [] ∷ []) }
+
+-- the same for a buffer of a given length, where the outcome is given
+unfoldable pub within : ℕ → String → Outcome → Example
+within n f w = record { room = n; file = f; layouts = "us"; variants = ""; wanted = w }
+
+unfoldable pub examples : List Example
+examples =
+    symbols "! layout = symbols\n* = pc+%l%(v)\n" "us" "" "pc+us" ∷
+    symbols "! layout = symbols\n* = pc+%l%(v)\n" "us" "intl" "pc+us(intl)" ∷
+    symbols "! layout[1] = symbols\n* = pc+%l[1]%(v[1])\n! layout[2] = symbols\n* = +%l[2]%(v[2]):2\n! layout[3] = symbols\n* = +%l[3]%(v[3]):3\n" "us,es,fr" "intl,,bepo" "pc+us(intl)+es:2+fr(bepo):3" ∷
+    symbols "! model = symbols\n* = x:all\n" "us" "" "x:1" ∷
+    symbols "! model = symbols\n* = x:all\n" "us,fr" "" "x:1+x:2" ∷
+    symbols "! model = symbols\n* = |x:all\n" "us,fr,de,es" "" "|x:1|x:2|x:3|x:4" ∷
+    symbols "! model = symbols\n* = x|y:all\n" "us,fr,de" "" "x|y:1|y:2|y:3" ∷
+    symbols "! model = symbols\n* = x:all+y|z:all\n" "us,fr" "" "x:1+x:2+y|z:1|z:2" ∷
+    symbols "! model = symbols\n* = +foo\n! model = symbols\n* = bar\n" "us" "" "bar+foo" ∷
+    symbols "! model = symbols\n* = foo\n! model = symbols\n* = bar\n" "us" "" "foo" ∷
+    symbols "! model = symbols\n* = +a\n! model = symbols\n* = b\n! model = symbols\n* = +c\n" "us" "" "b+a+c" ∷
+    symbols "! model = symbols\n* = %l[1]\n" "us" "" "" ∷
+    symbols "! model = symbols\n* = %l\n" "us,il" "" "" ∷
+    within 5 "! model = symbols\n* = ab+cd\n" (strings ([] ∷ [] ∷ [] ∷ bytes "ab+cd" ∷ [] ∷ [])) ∷
+    within 4 "! model = symbols\n* = ab+cd\n" (refusal 11 0) ∷ []
+
+pub checked : map resolved examples ≡ map (λ e. e .wanted) examples
+unfolding examples symbols within resolved outcome pairs bytes same empty first rest allOf anyOf concatMap run words heading feeds inside linesOf lines classOf step marks refusedIf refusedAs badByte tooLong wordsFault push fields dropEmpty optionsOf profileOf layoutCount outside longField badText textRefusals countRefusals profileRefusals before after setShape setEntry groupEntry headingEntry ruleEntry entryOf defined withGroup leftWords rightWords ruleShape ruleFault orphans headFaults faults lineFaults fileRefusals decimal upFrom numberedIn indexOf leftItem componentOf columnsIn indexesIn columnNumber indexNumber knownIndex knownItem distinct alike firstIndex headingOf goodItems hasWord whichOf variableOf whichLength variableLength isPrefix inParens pieceAfter pieceLength pieces badWhich badVariable badPiece malformed addEntry sections isEquals isStar hasDollar ordinary isGroupName leftWord isSign signed cuts endsAll stem copy copies spread expanded choose valueOf pieceText filled textsFrom tenTexts sum joined total noRoom refusals firstOf answer valuesOf base additions fired ruleFires setFires headFires firings fileFirings layoutsAt perLayout layoutsOf members wordMatches valueMatches columnMatches ruleMatches isOptions
+checked = refl

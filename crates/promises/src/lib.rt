@@ -1,0 +1,1 @@
+// The promises: statements and proofs only.
