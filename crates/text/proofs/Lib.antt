@@ -1,3 +1,4 @@
 pub mod Lists
 pub mod Joined
 pub mod Numbers
+pub mod Comparing

@@ -13,6 +13,11 @@ refusedIf t n p = cond t (record { number = n; place = p } ∷ []) []
 unfoldable pub refusedAs : ℕ → ℕ → List Refusal
 refusedAs n p = refusedIf (not (eqb n 0)) n p
 
+-- the first of the refusals; number 0 and place 0 where there is none
+unfoldable pub firstRefusal : List Refusal → Refusal
+firstRefusal [] = record { number = 0; place = 0 }
+firstRefusal (r ∷ rs) = r
+
 -- the numbers of document 01
 unfoldable pub isNumber : ℕ → Bool
 isNumber n = leb 1 n && leb n 11

@@ -1,5 +1,7 @@
 // The bytes of a rules file as lines and words: the types that its definitions and its readers share.
 
+pub mod compare;
+
 // What a byte other than LF means, by itself and the byte after it.
 pub enum Class {
     Blank,
