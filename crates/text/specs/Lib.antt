@@ -4,3 +4,4 @@ pub mod Marks
 pub mod Lines
 pub mod Words
 pub mod Refusals
+pub mod Reading

@@ -1,0 +1,567 @@
+-- The readers of lines and words: one law for each way through each loop.
+use Prim.Native.Nat.{ℕ, zero, suc, min, _+_, _-_, _≤_, _<_}
+use native.Mathlib.Nat.{add-zero}
+use native.Mathlib.Omega.{arith}
+use mathlib.Core.Path.{_≡_, refl, sym, ap, _∙_}
+use mathlib.Core.List.{List, [], _∷_, _++_}
+use mathlib.Core.Bool.{Bool, true, false, not, _||_, cond}
+use borrow.Author.Tests.{ne-eqb, eq-eqb, eqb-true, eqb-false, ltb-true, ltb-false, lt-ltb, le-ltb}
+use lib.Dec.{eqb, ltb}
+use lib.ListN.{length, getD, drop, drop-of-length-le}
+use Rattle.text.specs.declared.Class.{Class}
+use Rattle.text.specs.declared.Class.the-variants.{Blank, Join, Slashes, Bang, Other}
+use Rattle.text.specs.declared.Place.{Place}
+use Rattle.text.specs.declared.Place.the-variants.{Start, Space, Word, Comment, JoinStart, JoinSpace}
+use Rattle.text.specs.declared.Next.{Next}
+use Rattle.text.specs.declared.Next.the-variants.{Found, Stop}
+use Rattle.text.specs.declared.Fast.{Fast}
+use Rattle.text.specs.declared.Fast.the-variants as fast
+use Rattle.text.specs.Bytes.{Text, Words, first, part, anyOf}
+use Rattle.text.specs.Marks.{classOf, Mark, char, gap, join, bang, end, atFeed, atOther, step, marks}
+use Rattle.text.specs.Lines.{run, words, heading, Line, feeds, inside, linesOf, lines}
+use Rattle.text.specs.Words.{badByte, tooLong, wordsFault}
+use Rattle.text.specs.Reading.{left, wordly, inWord, ahead, follow, faultOf, lower, kindOf, Table, Fenced, Within, WordEnd, InWord, PlainEnd, OddWord, CommentEnd, Blanks, Skipped, FoundWord, NoWord, Between, FastWord, NextWord, Opens}
+use Rattle.text.proofs.Lists.{no}
+use Rattle.text.proofs.Positions.{first-drop, part-empty, part-cons, part-snoc, in-word-start, in-word-more, in-word-over, marks-at, step-other, step-feed, comment-words, first-in, any-cons, any-nil, length-part, lines-char, lines-gap, lines-bang, lines-join, lines-end, lines-nil}
+use Rattle.text.proofs.ByteKinds.{Plain, not-bad, plain-in-word, kind-one, kind-stop, Begins, begins-char, kind-zero, join-class, note-class, bang-class, differ}
+
+-- plain bytes
+
+any-snoc : (w : List ℕ) (b : ℕ) → anyOf badByte w ≡ false → badByte b ≡ false → anyOf badByte (w ++ (b ∷ [])) ≡ false
+unfolding anyOf
+any-snoc [] b h k = rw k refl
+any-snoc (x ∷ w) b h k = go (badByte x) h (any-snoc w b)
+  where
+    go : (t : Bool) → t || anyOf badByte w ≡ false → (anyOf badByte w ≡ false → badByte b ≡ false → anyOf badByte (w ++ (b ∷ [])) ≡ false) → t || anyOf badByte (w ++ (b ∷ [])) ≡ false
+    go true e f = absurd (no (sym e))
+    go false e f = f e k
+
+pub record Run (s : List ℕ) (from i : ℕ) : Type 0 where
+  pub read : InWord s from i
+  pub clean : anyOf badByte (part s from i) ≡ false
+
+module _ (s : List ℕ) (from i : ℕ) (v : Run s from i) where
+  pub run-more : i < length s → badByte (getD s i 0) ≡ false → Run s from (i + 1)
+  run-more h b =
+      record {
+        read = in-word-more s from i (v .read) h (plain-in-word _ _ b);
+        clean = rw (part-snoc s from i (v .read .low) h) (any-snoc _ _ (v .clean) b);
+      }
+
+  pub run-stop : badByte (getD s i 0) ≡ true → PlainEnd s from i
+  run-stop b = record { read = v .read; clean = v .clean; stop = λ h. b }
+
+  pub run-end : length s ≤ i → PlainEnd s from i
+  run-end h = record { read = v .read; clean = v .clean; stop = λ l. absurd (let z : _≡_ {A = ℕ} 0 1 = omega (arith, h, l) in eqb-false 0 1 refl z) }
+
+pub run-start : (s : List ℕ) (from : ℕ) → from ≤ length s → Run s from from
+run-start s from h = record { read = in-word-start s from h; clean = rw (part-empty s from, any-nil) }
+
+-- blanks
+
+words-gap : (f : Bool) (r : List Mark) → words f (gap ∷ r) ≡ words false r
+unfolding words
+words-gap f r = refl
+
+words-join : (f : Bool) (r : List Mark) → words f (join ∷ r) ≡ words false r
+unfolding words
+words-join f r = refl
+
+words-bang : (f : Bool) (r : List Mark) → words f (bang ∷ r) ≡ words false r
+unfolding words
+words-bang f r = refl
+
+words-end : (f : Bool) (r : List Mark) → words f (end ∷ r) ≡ []
+unfolding words
+words-end f r = refl
+
+words-nil : (f : Bool) → words f [] ≡ []
+unfolding words
+words-nil f = refl
+
+words-char : (b : ℕ) (r : List Mark) → words false (char b ∷ r) ≡ (b ∷ run r) ∷ words true r
+unfolding words
+words-char b r = refl
+
+heading-gap : (r : List Mark) → heading (gap ∷ r) ≡ heading r
+unfolding heading
+heading-gap r = refl
+
+heading-join : (r : List Mark) → heading (join ∷ r) ≡ heading r
+unfolding heading
+heading-join r = refl
+
+heading-bang : (r : List Mark) → heading (bang ∷ r) ≡ true
+unfolding heading
+heading-bang r = refl
+
+heading-char : (b : ℕ) (r : List Mark) → heading (char b ∷ r) ≡ false
+unfolding heading
+heading-char b r = refl
+
+heading-end : (r : List Mark) → heading (end ∷ r) ≡ false
+unfolding heading
+heading-end r = refl
+
+heading-nil : heading [] ≡ false
+unfolding heading
+heading-nil = refl
+
+pub marks-nil : (m : Place) → marks m [] ≡ []
+unfolding marks
+marks-nil m = refl
+
+pub blanks-start : (s : List ℕ) (from : ℕ) → from ≤ length s → Blanks s from from
+blanks-start s from h = record { low = omega arith; high = h; text = refl; onto = λ n. refl; mark₀ = refl; text₀ = refl; onto₀ = λ n. refl }
+
+module _ (s : List ℕ) (from i : ℕ) (v : Blanks s from i) where
+  pub blanks-more : i < length s → kindOf (getD s i 0) ≡ 1 → Blanks s from (i + 1)
+  unfolding left ahead
+  blanks-more h k =
+      let z = kind-one (getD s i 0) (first (drop (i + 1) s)) k in
+      let n = eqb-false _ _ (z .1) in
+      record {
+        low = omega (arith, v .low);
+        high = omega arith;
+        text = v .text ∙ rw (marks-at Space s i h, step-other Space _ _ Blank n (z .0), words-gap);
+        onto = λ m. v .onto m ∙ rw (marks-at Space s i h, step-other Space _ _ Blank n (z .0), lines-gap);
+        mark₀ = v .mark₀ ∙ rw (marks-at Start s i h, step-other Start _ _ Blank n (z .0), heading-gap);
+        text₀ = v .text₀ ∙ rw (marks-at Start s i h, step-other Start _ _ Blank n (z .0), words-gap);
+        onto₀ = λ m. v .onto₀ m ∙ rw (marks-at Start s i h, step-other Start _ _ Blank n (z .0), lines-gap);
+      }
+
+  pub blanks-stop : (kindOf (getD s i 0) ≡ 1 → ⊥) → Skipped s from i
+  blanks-stop k = record { blanks = v; stop = λ h. k }
+
+  pub blanks-end : length s ≤ i → Skipped s from i
+  blanks-end h = record { blanks = v; stop = λ l. absurd (let z : _≡_ {A = ℕ} 0 1 = omega (arith, h, l) in eqb-false 0 1 refl z) }
+
+-- comments
+
+pub record InComment (s : List ℕ) (from i : ℕ) : Type 0 where
+  pub low : from ≤ i
+  pub high : i ≤ length s
+  pub onto : (n : ℕ) → linesOf n true (marks Comment (drop from s)) ≡ linesOf n true (marks Comment (drop i s))
+
+module _ (s : List ℕ) (from i : ℕ) (v : InComment s from i) where
+  pub comment-more : i < length s → (getD s i 0 ≡ 10 → ⊥) → InComment s from (i + 1)
+  comment-more h k =
+      record {
+        low = omega (arith, v .low);
+        high = omega arith;
+        onto = λ n. v .onto n ∙ rw (marks-at Comment s i h, step-other Comment _ _ _ k refl, lines-gap);
+      }
+
+  pub comment-feed : i < length s → getD s i 0 ≡ 10 → CommentEnd s from (i + 1)
+  unfolding follow
+  comment-feed h k =
+      record {
+        low = omega (arith, v .low);
+        high = omega arith;
+        onto = λ n. v .onto n ∙ rw (marks-at Comment s i h, step-feed Comment _ _ k, lines-end);
+      }
+
+  pub comment-over : length s ≤ i → CommentEnd s from i
+  unfolding follow
+  comment-over h =
+      record { low = v .low; high = v .high; onto = λ n. v .onto n ∙ rw (drop-of-length-le s h, marks-nil, marks-nil, lines-nil, lines-nil) }
+
+-- a word of any kind
+
+module _ (s : List ℕ) (a e : ℕ) (lt : a < length s) (w : WordEnd s (a + 1) e) where
+  pub odd-bad : anyOf badByte (part s a e) ≡ true → OddWord s a e 4
+  unfolding faultOf
+  odd-bad h = record { ends = w; fault = rw h refl }
+
+  pub odd-long : anyOf badByte (part s a e) ≡ false → 256 < e - a → OddWord s a e 5
+  unfolding faultOf tooLong
+  odd-long h k = record { ends = w; fault = rw (h, length-part s a e (w .high), lt-ltb _ _ k) refl }
+
+  pub odd-fine : anyOf badByte (part s a e) ≡ false → e - a ≤ 256 → OddWord s a e 0
+  unfolding faultOf tooLong
+  odd-fine h k = record { ends = w; fault = rw (h, length-part s a e (w .high), le-ltb _ _ k) refl }
+
+-- a plain word that a blank or LF ends
+pub plain-word : (s : List ℕ) (a p : ℕ) → a < length s → badByte (getD s a 0) ≡ false → PlainEnd s (a + 1) p → p < length s → kindOf (getD s p 0) ≤ 2 → p ≤ a + 256 → OddWord s a p 0
+plain-word s a p lt b w h k l =
+    let lo : a < p = omega (arith, w .read .low) in
+    let e : anyOf badByte (part s a p) ≡ false = rw (part-cons s a p lo (w .read .high), any-cons, b) (w .clean) in
+    odd-fine s a p lt (in-word-over s (a + 1) p (w .read) h (kind-stop _ _ (w .stop h) k)) e (omega arith)
+
+-- a backslash with LF after it lies in the file with both bytes
+pub join-in : (s : List ℕ) (i : ℕ) → first (drop (i + 1) s) ≡ 10 → i + 2 ≤ length s
+join-in s i f = let k : i + 1 < length s = first-in s (i + 1) f in omega arith
+
+-- between words
+
+pub between-skip : (s : List ℕ) (from n i : ℕ) → n ≤ from + 1 → Blanks s from i → Between s from n i n
+between-skip s from n i h v = record { low = v .low; high = v .high; few = omega (arith, v .low); text = v .text; onto = v .onto n }
+
+module _ (s : List ℕ) (from n i m : ℕ) (v : Between s from n i m) where
+  pub between-end : length s ≤ i → NoWord s from n i m
+  unfolding left ahead follow
+  between-end h =
+      let e = drop-of-length-le s h in
+      record {
+        low = v .low;
+        onwards = omega (arith, h);
+        high = v .high;
+        few = v .few;
+        none = v .text ∙ rw (e, marks-nil, words-nil);
+        onto = v .onto ∙ rw (e, marks-nil, marks-nil, lines-nil, lines-nil);
+      }
+
+  module _ (h : i < length s) where
+    pub between-feed : getD s i 0 ≡ 10 → NoWord s from n (i + 1) (m + 1)
+    unfolding left ahead follow
+    between-feed e =
+        record {
+          low = omega (arith, v .low);
+          onwards = omega (arith, v .low);
+          high = omega arith;
+          few = omega (arith, v .few);
+          none = v .text ∙ rw (marks-at Space s i h, step-feed Space _ _ e, words-end);
+          onto = v .onto ∙ rw (marks-at Space s i h, step-feed Space _ _ e, lines-end);
+        }
+
+    pub between-joined : (j : ℕ) → getD s i 0 ≡ 92 → first (drop (i + 1) s) ≡ 10 → Blanks s (i + 2) j → Between s from n j (m + 1)
+    unfolding left ahead
+    between-joined j e f w =
+        let k : i + 1 < length s = first-in s (i + 1) f in
+        let q : i + 1 + 1 ≡ i + 2 = omega arith in
+        let g : getD s (i + 1) 0 ≡ 10 = sym (first-drop s (i + 1)) ∙ f in
+        let x = step-other Space _ _ Join (differ _ 92 10 refl e) (join-class _ _ e f) in
+        record {
+          low = omega (arith, v .low, w .low);
+          high = w .high;
+          few = omega (arith, v .few, w .low);
+          text = v .text ∙ (rw (marks-at Space s i h, x, words-gap, marks-at JoinSpace s (i + 1) k, step-feed JoinSpace _ _ g, words-join, q) (w .text));
+          onto = v .onto ∙ (rw (marks-at Space s i h, x, lines-gap, marks-at JoinSpace s (i + 1) k, step-feed JoinSpace _ _ g, lines-join, q) (w .onto (m + 1)));
+        }
+
+    pub between-note : (p : ℕ) → getD s i 0 ≡ 47 → first (drop (i + 1) s) ≡ 47 → CommentEnd s (i + 1) p → NoWord s from n p (m + 1)
+    unfolding left ahead
+    between-note p e f w =
+        let x = step-other Space _ _ Slashes (differ _ 47 10 refl e) (note-class _ _ e f) in
+        record {
+          low = omega (arith, v .low, w .low);
+          onwards = omega (arith, v .low, w .low);
+          high = w .high;
+          few = omega (arith, v .few, w .low);
+          none = v .text ∙ rw (marks-at Space s i h, x, words-gap) (comment-words (drop (i + 1) s));
+          onto = v .onto ∙ rw (marks-at Space s i h, x, lines-gap) (w .onto m);
+        }
+
+    pub between-word : (z f : ℕ) → Begins (getD s i 0) (first (drop (i + 1) s)) → OddWord s i z f → FoundWord s from n i z m f
+    unfolding left ahead
+    between-word z f b w =
+        let x = step-other Space _ _ _ (b .feed) refl ∙ begins-char _ _ b in
+        let lo : i < z = omega (arith, w .ends .low) in
+        record {
+          low = v .low;
+          some = lo;
+          high = w .ends .high;
+          few = omega (arith, v .few);
+          text = v .text ∙ rw (marks-at Space s i h, x, words-char, w .ends .text, w .ends .rest, part-cons s i z lo (w .ends .high));
+          onto = v .onto ∙ rw (marks-at Space s i h, x, lines-char) (w .ends .onto m);
+          fault = w .fault;
+        }
+
+-- the start of a line
+
+pub record Opened (s : List ℕ) (from n i m : ℕ) : Type 0 where
+  pub low : from ≤ i
+  pub high : i ≤ length s
+  pub few : m ≤ i + 1
+  pub mark : heading (marks Start (drop from s)) ≡ heading (marks Start (drop i s))
+  pub text : words false (marks Start (drop from s)) ≡ words false (marks Start (drop i s))
+  pub onto : linesOf n true (marks Start (drop from s)) ≡ linesOf m true (marks Start (drop i s))
+
+pub opened-skip : (s : List ℕ) (from n i : ℕ) → n ≤ from + 1 → Blanks s from i → Opened s from n i n
+opened-skip s from n i h v = record { low = v .low; high = v .high; few = omega (arith, v .low); mark = v .mark₀; text = v .text₀; onto = v .onto₀ n }
+
+heading-comment : (l : List ℕ) → heading (marks Comment l) ≡ false
+unfolding marks heading step
+heading-comment [] = refl
+heading-comment (b ∷ r) = go (eqb b 10) (heading-comment r)
+  where
+    go : (t : Bool) → heading (marks Comment r) ≡ false →
+        heading (cond t (atFeed Comment) (atOther Comment (classOf b (first r)) b) .0 ∷ marks (cond t (atFeed Comment) (atOther Comment (classOf b (first r)) b) .1) r) ≡ false
+    go true h = refl
+    go false h = h
+
+-- what may stand at the first byte that is not blank: no heading mark, and the same marks as between words
+pub record Same (b c : ℕ) : Type 0 where
+  pub blank : kindOf b ≡ 1 → ⊥
+  pub bang : b ≡ 33 → ⊥
+  pub joins : b ≡ 92 → c ≡ 10 → ⊥
+
+same-step : (b c : ℕ) → Same b c → step Start b c ≡ step Space b c
+unfolding step kindOf classOf
+same-step b c h = go (eqb b 10) (eqb b 32) (eqb b 9) (eqb b 33) (eqb b 92) (eqb c 10) (eqb b 47) (eqb c 47) refl refl refl refl refl
+  where
+    go : (l t u v w x y z : Bool) → eqb b 32 ≡ t → eqb b 9 ≡ u → eqb b 33 ≡ v → eqb b 92 ≡ w → eqb c 10 ≡ x →
+        cond l (atFeed Start) (atOther Start (cond t Blank (cond u Blank (cond v Bang (cond w (cond x Join Other) (cond y (cond z Slashes Other) Other))))) b) ≡
+        cond l (atFeed Space) (atOther Space (cond t Blank (cond u Blank (cond v Bang (cond w (cond x Join Other) (cond y (cond z Slashes Other) Other))))) b)
+    go true t u v w x y z p q r i j = refl
+    go false true u v w x y z p q r i j = absurd (h .blank (rw p refl))
+    go false false true v w x y z p q r i j = absurd (h .blank (rw (p, q) refl))
+    go false false false true w x y z p q r i j = absurd (h .bang (eqb-true _ _ r))
+    go false false false false true true y z p q r i j = absurd (h .joins (eqb-true _ _ i) (eqb-true _ _ j))
+    go false false false false true false y z p q r i j = refl
+    go false false false false false x true true p q r i j = refl
+    go false false false false false x true false p q r i j = refl
+    go false false false false false x false z p q r i j = refl
+
+-- the rest of a line after its first byte that is no blank: no heading
+same-mark : (b c : ℕ) (r : List ℕ) → Same b c → heading (step Start b c .0 ∷ marks (step Start b c .1) r) ≡ false
+unfolding step kindOf classOf heading
+same-mark b c r h = go (eqb b 10) (eqb b 32) (eqb b 9) (eqb b 33) (eqb b 92) (eqb c 10) (eqb b 47) (eqb c 47) refl refl refl refl refl
+  where
+    go : (l t u v w x y z : Bool) → eqb b 32 ≡ t → eqb b 9 ≡ u → eqb b 33 ≡ v → eqb b 92 ≡ w → eqb c 10 ≡ x →
+        heading (cond l (atFeed Start) (atOther Start (cond t Blank (cond u Blank (cond v Bang (cond w (cond x Join Other) (cond y (cond z Slashes Other) Other))))) b) .0 ∷
+        marks (cond l (atFeed Start) (atOther Start (cond t Blank (cond u Blank (cond v Bang (cond w (cond x Join Other) (cond y (cond z Slashes Other) Other))))) b) .1) r) ≡ false
+    go true t u v w x y z p q i j k = refl
+    go false true u v w x y z p q i j k = absurd (h .blank (rw p refl))
+    go false false true v w x y z p q i j k = absurd (h .blank (rw (p, q) refl))
+    go false false false true w x y z p q i j k = absurd (h .bang (eqb-true _ _ i))
+    go false false false false true true y z p q i j k = absurd (h .joins (eqb-true _ _ j) (eqb-true _ _ k))
+    go false false false false true false y z p q i j k = refl
+    go false false false false false x true true p q i j k = heading-comment r
+    go false false false false false x true false p q i j k = refl
+    go false false false false false x false z p q i j k = refl
+
+module _ (s : List ℕ) (from n i m : ℕ) (v : Opened s from n i m) where
+  pub opened-end : length s ≤ i → Opens s from n false i m
+  unfolding left ahead
+  opened-end h =
+      let e = drop-of-length-le s h in
+      record {
+        low = v .low;
+        high = v .high;
+        few = v .few;
+        mark = v .mark ∙ rw (e, marks-nil, heading-nil);
+        text = v .text ∙ rw (e, marks-nil, marks-nil);
+        onto = v .onto ∙ rw (e, marks-nil, marks-nil);
+      }
+
+  module _ (h : i < length s) where
+    pub opened-bang : getD s i 0 ≡ 33 → Opens s from n true (i + 1) m
+    unfolding left ahead
+    opened-bang e =
+        let x = step-other Start _ _ Bang (differ _ 33 10 refl e) (bang-class _ (first (drop (i + 1) s)) e) in
+        record {
+          low = omega (arith, v .low);
+          high = omega arith;
+          few = omega (arith, v .few);
+          mark = v .mark ∙ rw (marks-at Start s i h, x, heading-bang);
+          text = v .text ∙ rw (marks-at Start s i h, x, words-bang);
+          onto = v .onto ∙ rw (marks-at Start s i h, x, lines-bang);
+        }
+
+    pub opened-same : Same (getD s i 0) (first (drop (i + 1) s)) → Opens s from n false i m
+    unfolding left ahead
+    opened-same e =
+        record {
+          low = v .low;
+          high = v .high;
+          few = v .few;
+          mark = v .mark ∙ rw (marks-at Start s i h) (same-mark _ _ _ e);
+          text = v .text ∙ rw (marks-at Start s i h, marks-at Space s i h, same-step _ _ e);
+          onto = v .onto ∙ rw (marks-at Start s i h, marks-at Space s i h, same-step _ _ e);
+        }
+
+    pub opened-joined : (j : ℕ) → getD s i 0 ≡ 92 → first (drop (i + 1) s) ≡ 10 → Blanks s (i + 2) j → Opened s from n j (m + 1)
+    opened-joined j e f w =
+        let k : i + 1 < length s = first-in s (i + 1) f in
+        let q : i + 1 + 1 ≡ i + 2 = omega arith in
+        let g : getD s (i + 1) 0 ≡ 10 = sym (first-drop s (i + 1)) ∙ f in
+        let x = step-other Start _ _ Join (differ _ 92 10 refl e) (join-class _ _ e f) in
+        record {
+          low = omega (arith, v .low, w .low);
+          high = w .high;
+          few = omega (arith, v .few, w .low);
+          mark = v .mark ∙ (rw (marks-at Start s i h, x, heading-gap, marks-at JoinStart s (i + 1) k, step-feed JoinStart _ _ g, heading-join, q) (w .mark₀));
+          text = v .text ∙ (rw (marks-at Start s i h, x, words-gap, marks-at JoinStart s (i + 1) k, step-feed JoinStart _ _ g, words-join, q) (w .text₀));
+          onto = v .onto ∙ (rw (marks-at Start s i h, x, lines-gap, marks-at JoinStart s (i + 1) k, step-feed JoinStart _ _ g, lines-join, q) (w .onto₀ (m + 1)));
+        }
+
+-- the refusals of a line's words
+
+pub lower-zero : (g : ℕ) → lower 0 g ≡ g
+unfolding lower
+lower-zero g = refl
+
+pub lower-none : (f : ℕ) → lower f 0 ≡ f
+unfolding lower
+lower-none zero = refl
+lower-none (suc f) = refl
+
+pub lower-min : (f g : ℕ) → (f ≡ 0 → ⊥) → (g ≡ 0 → ⊥) → lower f g ≡ min f g
+unfolding lower
+lower-min zero g h k = absurd (h refl)
+lower-min (suc f) zero h k = absurd (k refl)
+lower-min (suc f) (suc g) h k = omega arith
+
+pub lower-assoc : (f g h : ℕ) → lower f (lower g h) ≡ lower (lower f g) h
+unfolding lower
+lower-assoc zero g h = refl
+lower-assoc (suc f) zero h = refl
+lower-assoc (suc f) (suc g) zero = refl
+lower-assoc (suc f) (suc g) (suc h) = omega arith
+
+pub fault-cons : (w : List ℕ) (ws : Words) → wordsFault (w ∷ ws) ≡ lower (faultOf w) (wordsFault ws)
+unfolding wordsFault anyOf faultOf lower
+fault-cons w ws = go (anyOf badByte w) (anyOf (anyOf badByte) ws) (tooLong w) (anyOf tooLong ws)
+  where
+    go : (x y z u : Bool) → cond (x || y) 4 (cond (z || u) 5 0) ≡ lower (cond x 4 (cond z 5 0)) (cond y 4 (cond u 5 0))
+    go true true z true = refl
+    go true true z false = refl
+    go true false z true = refl
+    go true false z false = refl
+    go false true true u = refl
+    go false true false u = refl
+    go false false true true = refl
+    go false false true false = refl
+    go false false false true = refl
+    go false false false false = refl
+
+pub fault-nil : wordsFault [] ≡ 0
+unfolding wordsFault anyOf
+fault-nil = refl
+
+pub found : (s : List ℕ) (i n : ℕ) (r : Next) (a e m f : ℕ) → r ≡ Found a e m f → NextWord s i n r → FoundWord s i n a e m f
+found s i n r a e m f q h = rw q at h
+
+pub stopped : (s : List ℕ) (i n : ℕ) (r : Next) (p m : ℕ) → r ≡ Stop p m → NextWord s i n r → NoWord s i n p m
+stopped s i n r p m q h = rw q at h
+
+-- the line that starts at a position, and the lines after it
+unfoldable pub lineAt : ℕ → List Mark → Line
+lineAt n l = record { number = n; isHeading = heading l; text = words false l }
+
+pub line-first : (s : List ℕ) (n at : ℕ) → at < length s →
+    linesOf n false (marks Start (drop at s)) ≡ lineAt n (marks Start (drop at s)) ∷ linesOf n true (marks Start (drop at s))
+unfolding linesOf lineAt
+line-first s n at h = rw (marks-at Start s at h)
+
+-- the table's entries as a flag
+pub stop-flag : (v : ℕ) (x : Bool) → v ≡ cond x 1 0 → not (eqb v 0) ≡ x
+stop-flag v true e = rw e refl
+stop-flag v false e = rw e refl
+
+-- the fence
+
+module _ (s : List ℕ) (f i : ℕ) (v : Fenced s f) (h : i < f) where
+  pub fence-more : (getD s i 0 ≡ 10 → ⊥) → i + 1 < f
+  fence-more n = go (ltb (i + 1) f) refl
+    where
+      go : (t : Bool) → ltb (i + 1) f ≡ t → i + 1 < f
+      go true e = ltb-true _ _ e
+      go false e =
+          let k : f ≤ i + 1 = ltb-false _ _ e in
+          let q : f - 1 ≡ i = omega arith in
+          absurd (n (rw q at (v .last (omega arith))))
+
+  pub fence-join : getD s i 0 ≡ 92 → getD s (i + 1) 0 ≡ 10 → i + 2 < f
+  fence-join a b = go (ltb (i + 2) f) refl
+    where
+      go : (t : Bool) → ltb (i + 2) f ≡ t → i + 2 < f
+      go true e = ltb-true _ _ e
+      go false e =
+          let m : i + 1 < f = fence-more (differ _ 92 10 refl a) in
+          let k : f ≤ i + 2 = ltb-false _ _ e in
+          let q : f - 2 ≡ i = omega arith in
+          absurd (v .free (omega arith) (rw q a))
+
+  pub fence-in : i < length s
+  fence-in = omega (arith, h, v .high)
+
+  pub fence-joined : getD s i 0 ≡ 92 → first (drop (i + 1) s) ≡ 10 → i + 2 < f
+  fence-joined a b = fence-join a (sym (first-drop s (i + 1)) ∙ b)
+
+  pub fence-plain : badByte (getD s i 0) ≡ false → i + 1 < f
+  fence-plain b = fence-more (λ e. omega (arith, not-bad _ b .least, e))
+
+  pub fence-blank : kindOf (getD s i 0) ≡ 1 → i + 1 < f
+  fence-blank k = fence-more (eqb-false _ _ (kind-one (getD s i 0) 0 k .1))
+
+pub fenced-none : (s : List ℕ) → Fenced s 0
+fenced-none s = record { high = omega arith; last = λ h. absurd (let z : _≡_ {A = ℕ} 0 1 = omega (arith, h) in eqb-false 0 1 refl z); free = λ h e. let z : _≡_ {A = ℕ} 0 1 = omega (arith, h) in eqb-false 0 1 refl z }
+
+-- the loop of `plain_end`, and of `skip_fast`
+pub record FastRun (s : List ℕ) (f from i : ℕ) : Type 0 where
+  pub run : Run s from i
+  pub inside : i < f
+
+pub fast-start : (s : List ℕ) (f from : ℕ) → Fenced s f → from < f → FastRun s f from from
+fast-start s f from v h = record { run = run-start s from (omega (arith, h, v .high)); inside = h }
+
+pub fast-more : (s : List ℕ) (f from i : ℕ) → Fenced s f → FastRun s f from i → badByte (getD s i 0) ≡ false → FastRun s f from (i + 1)
+fast-more s f from i v w b = record { run = run-more s from i (w .run) (omega (arith, w .inside, v .high)) b; inside = fence-plain s f i v (w .inside) b }
+
+fast-at : (s : List ℕ) (f from j k : ℕ) → j ≡ k → FastRun s f from j → FastRun s f from k
+fast-at s f from j k e v = rw e at v
+
+module _ (s : List ℕ) (f from i : ℕ) (v : Fenced s f) (w : FastRun s f from i) (b : badByte (getD s i 0) ≡ false) where
+  pub fast-two : badByte (getD s (i + 1) 0) ≡ false → FastRun s f from (i + 2)
+  fast-two b₁ = fast-at s f from (i + 1 + 1) (i + 2) (omega arith) (fast-more s f from (i + 1) v (fast-more s f from i v w b) b₁)
+
+  pub fast-three : badByte (getD s (i + 1) 0) ≡ false → badByte (getD s (i + 2) 0) ≡ false → FastRun s f from (i + 3)
+  fast-three b₁ b₂ = fast-at s f from (i + 2 + 1) (i + 3) (omega arith) (fast-more s f from (i + 2) v (fast-two b₁) b₂)
+
+  pub fast-four : badByte (getD s (i + 1) 0) ≡ false → badByte (getD s (i + 2) 0) ≡ false → badByte (getD s (i + 3) 0) ≡ false → FastRun s f from (i + 4)
+  fast-four b₁ b₂ b₃ = fast-at s f from (i + 3 + 1) (i + 4) (omega arith) (fast-more s f from (i + 3) v (fast-three b₁ b₂) b₃)
+
+pub fast-stop : (s : List ℕ) (f from i : ℕ) → FastRun s f from i → badByte (getD s i 0) ≡ true → PlainEnd s from i × (i < f)
+fast-stop s f from i w b = (run-stop s from i (w .run) b, w .inside)
+
+pub record FastBlanks (s : List ℕ) (f from i : ℕ) : Type 0 where
+  pub run : Blanks s from i
+  pub inside : i < f
+
+pub gaps-more : (s : List ℕ) (f from i : ℕ) → Fenced s f → FastBlanks s f from i → kindOf (getD s i 0) ≡ 1 → FastBlanks s f from (i + 1)
+gaps-more s f from i v w k = record { run = blanks-more s from i (w .run) (omega (arith, w .inside, v .high)) k; inside = fence-blank s f i v (w .inside) k }
+
+pub gaps-stop : (s : List ℕ) (f from i : ℕ) → FastBlanks s f from i → (kindOf (getD s i 0) ≡ 1 → ⊥) → Skipped s from i × (i < f)
+gaps-stop s f from i w k = (blanks-stop s from i (w .run) k, w .inside)
+
+pub gaps-two : (s : List ℕ) (f from i : ℕ) → Fenced s f → FastBlanks s f from i → kindOf (getD s i 0) ≡ 1 → kindOf (getD s (i + 1) 0) ≡ 1 → FastBlanks s f from (i + 2)
+gaps-two s f from i v w k k₁ =
+    let q : i + 1 + 1 ≡ i + 2 = omega arith in
+    rw q at (gaps-more s f from (i + 1) v (gaps-more s f from i v w k) k₁)
+
+-- from where words are looked for, and at a byte that is no blank
+pub record At (s : List ℕ) (from n i m : ℕ) : Type 0 where
+  pub between : Between s from n i m
+  pub stop : i < length s → kindOf (getD s i 0) ≡ 1 → ⊥
+
+pub record FastAt (s : List ℕ) (f from n i m : ℕ) : Type 0 where
+  pub between : Between s from n i m
+  pub inside : i < f
+
+pub at-most : (r k m : ℕ) → r ≡ k → r ≤ m → k ≤ m
+at-most r k m e h = omega arith
+
+pub between-then : (s : List ℕ) (from n i m : ℕ) (r : Next) → Between s from n i m → NextWord s i m r → NextWord s from n r
+between-then s from n i m (Found a e m′ f) v w =
+    record { low = omega (arith, v .low, w .low); some = w .some; high = w .high; few = w .few; text = v .text ∙ w .text; onto = v .onto ∙ w .onto; fault = w .fault }
+between-then s from n i m (Stop p m′) v w =
+    record { low = omega (arith, v .low, w .low); onwards = omega (arith, v .low, w .onwards); high = w .high; few = w .few; none = v .text ∙ w .none; onto = v .onto ∙ w .onto }
+
+pub between-none : (s : List ℕ) (from n : ℕ) → from ≤ length s → n ≤ from + 1 → Between s from n from n
+between-none s from n h k = record { low = omega arith; high = h; few = k; text = refl; onto = refl }
+
+pub record OpenAt (s : List ℕ) (from n i m : ℕ) : Type 0 where
+  pub opened : Opened s from n i m
+  pub stop : i < length s → kindOf (getD s i 0) ≡ 1 → ⊥
+
+-- what was made out before the fence, taken apart
+pub made-word : (s : List ℕ) (i n : ℕ) (r : Fast) (a e m : ℕ) → r ≡ fast.Word a e m → FastWord s i n r → FoundWord s i n a e m 0
+made-word s i n r a e m q h = rw q at h
+
+pub made-end : (s : List ℕ) (i n : ℕ) (r : Fast) (p m : ℕ) → r ≡ fast.End p m → FastWord s i n r → NoWord s i n p m
+made-end s i n r p m q h = rw q at h
+
+pub made-rest : (s : List ℕ) (i n : ℕ) (r : Fast) (p m : ℕ) → r ≡ fast.Rest p m → FastWord s i n r → Between s i n p m
+made-rest s i n r p m q h = rw q at h

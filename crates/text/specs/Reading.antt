@@ -1,0 +1,161 @@
+-- What the readers of lines and words promise: each says what becomes of the words of this line, and of the lines after it.
+use mathlib.Core.Path.{_≡_}
+use Prim.Native.Nat.{ℕ, zero, suc, min, _+_, _-_, _≤_, _<_}
+use mathlib.Core.List.{List, [], _∷_, _++_}
+use mathlib.Core.Bool.{Bool, true, false, cond}
+use lib.Dec.{eqb}
+use lib.ListN.{length, drop, getD}
+use Rattle.text.specs.declared.Class.{Class}
+use Rattle.text.specs.declared.Class.the-variants.{Blank, Join, Slashes, Bang, Other}
+use Rattle.text.specs.declared.Next.{Next}
+use Rattle.text.specs.declared.Next.the-variants.{Found, Stop}
+use Rattle.text.specs.declared.Fast.{Fast}
+use Rattle.text.specs.declared.Fast.the-variants as fast
+use Rattle.text.specs.declared.Place.the-variants.{Start, Space, Word, Comment}
+use Rattle.text.specs.Bytes.{Text, Words, anyOf, part}
+use Rattle.text.specs.Marks.{classOf, marks}
+use Rattle.text.specs.Lines.{run, words, heading, Line, linesOf}
+use Rattle.text.specs.Words.{badByte, tooLong}
+
+-- the words from a position on, where a word would begin
+unfoldable pub left : List ℕ → ℕ → Words
+left s at = words false (marks Space (drop at s))
+
+-- a byte goes on with a word that has begun
+unfoldable pub wordly : Class → Bool
+wordly Blank = false
+wordly Join = false
+wordly Slashes = true
+wordly Bang = true
+wordly Other = true
+
+unfoldable pub inWord : ℕ → ℕ → Bool
+inWord b c = cond (eqb b 10) false (wordly (classOf b c))
+
+-- the lines after the one that is being read: from a position in its words on, and from the start of a line on
+unfoldable pub ahead : List ℕ → ℕ → ℕ → List Line
+ahead s at n = linesOf n true (marks Space (drop at s))
+
+unfoldable pub follow : List ℕ → ℕ → ℕ → List Line
+follow s at n = linesOf n false (marks Start (drop at s))
+
+-- the refusal of a word by itself, and the lower of two refusals, where 0 is none
+unfoldable pub faultOf : List ℕ → ℕ
+faultOf w = cond (anyOf badByte w) 4 (cond (tooLong w) 5 0)
+
+unfoldable pub lower : ℕ → ℕ → ℕ
+lower zero g = g
+lower (suc f) zero = suc f
+lower (suc f) (suc g) = suc (min f g)
+
+-- the kind of a byte: 0 a plain byte that is no slash, 1 a blank, 2 LF, 3 any other
+unfoldable pub kindOf : ℕ → ℕ
+kindOf b = cond (eqb b 32) 1 (cond (eqb b 9) 1 (cond (eqb b 10) 2 (cond (badByte b) 3 (cond (eqb b 47) 3 0))))
+
+pub record Table (t : List ℕ) : Type 0 where
+  pub stops : (b : ℕ) → b < 256 → getD t b 0 ≡ cond (badByte b) 1 0
+  pub kinds : (b : ℕ) → b < 256 → getD t (256 + b) 0 ≡ kindOf b
+
+-- the byte before f is a LF that ends a line, whatever stands before it; or f is 0
+pub record Fenced (s : List ℕ) (f : ℕ) : Type 0 where
+  pub high : f ≤ length s
+  pub last : 0 < f → getD s (f - 1) 0 ≡ 10
+  pub free : 1 < f → getD s (f - 2) 0 ≡ 92 → ⊥
+
+-- what the readers ask
+pub record Within (s t : List ℕ) (fence from line : ℕ) : Type 0 where
+  pub high : from ≤ length s
+  pub few : line ≤ from + 1
+  pub table : Table t
+  pub fenced : Fenced s fence
+
+-- what the readers promise
+
+-- the word that has begun before `at` ends at r
+pub record WordEnd (s : List ℕ) (at r : ℕ) : Type 0 where
+  pub low : at ≤ r
+  pub high : r ≤ length s
+  pub text : run (marks Word (drop at s)) ≡ part s at r
+  pub rest : words true (marks Word (drop at s)) ≡ left s r
+  pub onto : (n : ℕ) → linesOf n true (marks Word (drop at s)) ≡ ahead s r n
+
+-- the word that has begun before `at` goes on up to i
+pub record InWord (s : List ℕ) (from i : ℕ) : Type 0 where
+  pub low : from ≤ i
+  pub high : i ≤ length s
+  pub text : run (marks Word (drop from s)) ≡ part s from i ++ run (marks Word (drop i s))
+  pub rest : words true (marks Word (drop from s)) ≡ words true (marks Word (drop i s))
+  pub onto : (n : ℕ) → linesOf n true (marks Word (drop from s)) ≡ linesOf n true (marks Word (drop i s))
+
+pub record PlainEnd (s : List ℕ) (at r : ℕ) : Type 0 where
+  pub read : InWord s at r
+  pub clean : anyOf badByte (part s at r) ≡ false
+  pub stop : r < length s → badByte (getD s r 0) ≡ true
+
+pub record OddWord (s : List ℕ) (at r f : ℕ) : Type 0 where
+  pub ends : WordEnd s (at + 1) r
+  pub fault : f ≡ faultOf (part s at r)
+
+pub record CommentEnd (s : List ℕ) (at r : ℕ) : Type 0 where
+  pub low : at ≤ r
+  pub high : r ≤ length s
+  pub onto : (n : ℕ) → linesOf n true (marks Comment (drop at s)) ≡ follow s r (n + 1)
+
+-- only blanks from `at` up to r; at the start of a line, and between words
+pub record Blanks (s : List ℕ) (at r : ℕ) : Type 0 where
+  pub low : at ≤ r
+  pub high : r ≤ length s
+  pub text : left s at ≡ left s r
+  pub onto : (n : ℕ) → ahead s at n ≡ ahead s r n
+  pub mark₀ : heading (marks Start (drop at s)) ≡ heading (marks Start (drop r s))
+  pub text₀ : words false (marks Start (drop at s)) ≡ words false (marks Start (drop r s))
+  pub onto₀ : (n : ℕ) → linesOf n true (marks Start (drop at s)) ≡ linesOf n true (marks Start (drop r s))
+
+pub record Skipped (s : List ℕ) (at r : ℕ) : Type 0 where
+  pub blanks : Blanks s at r
+  pub stop : r < length s → kindOf (getD s r 0) ≡ 1 → ⊥
+
+-- The next word is from a up to e, in the physical line m, with the refusal f. What is ahead is what is ahead after it.
+pub record FoundWord (s : List ℕ) (at n a e m f : ℕ) : Type 0 where
+  pub low : at ≤ a
+  pub some : a < e
+  pub high : e ≤ length s
+  pub few : m ≤ e + 1
+  pub text : left s at ≡ part s a e ∷ left s e
+  pub onto : ahead s at n ≡ ahead s e m
+  pub fault : f ≡ faultOf (part s a e)
+
+-- No word is left, and the next line starts at p and has the number m.
+pub record NoWord (s : List ℕ) (at n p m : ℕ) : Type 0 where
+  pub low : at ≤ p
+  pub onwards : min (at + 1) (length s) ≤ p
+  pub high : p ≤ length s
+  pub few : m ≤ p + 1
+  pub none : left s at ≡ []
+  pub onto : ahead s at n ≡ follow s p m
+
+-- from `at` on, with the line n, nothing but blanks and joins up to i, which lies in the physical line m
+pub record Between (s : List ℕ) (at n i m : ℕ) : Type 0 where
+  pub low : at ≤ i
+  pub high : i ≤ length s
+  pub few : m ≤ i + 1
+  pub text : left s at ≡ left s i
+  pub onto : ahead s at n ≡ ahead s i m
+
+abbrev pub FastWord : List ℕ → ℕ → ℕ → Fast → Type 0
+FastWord s at n (fast.Word a e m) = FoundWord s at n a e m 0
+FastWord s at n (fast.End p m) = NoWord s at n p m
+FastWord s at n (fast.Rest i m) = Between s at n i m
+
+abbrev pub NextWord : List ℕ → ℕ → ℕ → Next → Type 0
+NextWord s at n (Found a e m f) = FoundWord s at n a e m f
+NextWord s at n (Stop p m) = NoWord s at n p m
+
+-- the heading mark and the words of the line at `from`, whose words are read from `at` on, in the physical line m
+pub record Opens (s : List ℕ) (from n : ℕ) (bang : Bool) (at m : ℕ) : Type 0 where
+  pub low : from ≤ at
+  pub high : at ≤ length s
+  pub few : m ≤ at + 1
+  pub mark : heading (marks Start (drop from s)) ≡ bang
+  pub text : words false (marks Start (drop from s)) ≡ left s at
+  pub onto : linesOf n true (marks Start (drop from s)) ≡ ahead s at m

@@ -1,0 +1,290 @@
+// The reader of lines and words over the file, with cursors.
+ghost use mathlib.Core.Path.{_≡_};
+ghost use Prim.Native.Nat.{_+_, _≤_, _<_};
+ghost use lib.ListN.{length};
+ghost use Rattle.text.specs.Bytes.{part, anyOf};
+ghost use Rattle.text.specs.Words.{badByte};
+ghost use Rattle.text.specs.Reading.{WordEnd, PlainEnd, Skipped, OddWord, CommentEnd, FastWord, NextWord, Opens, Table, Fenced, Within};
+use super::Fast;
+use super::Next;
+use super::Opening;
+use super::WordAt;
+use super::bytes::bad_byte;
+use super::bytes::in_word;
+use super::bytes::kind;
+use super::bytes::peek;
+use super::bytes::stops;
+
+pub fn fence_of(s: &[u8]) -> usize
+    ensures { λ r. ⌜ Fenced (now (s .entry)) r ⌝ }
+{
+    let mut f = s.len();
+    while 1 < f {
+        if s[f - 1] == 10 {
+            if s[f - 2] != 92 {
+                return f;
+            }
+        }
+        f -= 1;
+    }
+    0
+}
+
+pub fn word_end(s: &[u8], from: usize) -> usize
+    requires { ⌜ from ≤ length (now s) ⌝ }
+    ensures { λ r. ⌜ WordEnd (now (s .entry)) from r ⌝ }
+{
+    let mut i = from;
+    while i < s.len() {
+        if !in_word(s[i], peek(s, i + 1)) {
+            return i;
+        }
+        i += 1;
+    }
+    i
+}
+
+pub fn any_bad(s: &[u8], from: usize, end: usize) -> bool
+    requires { ⌜ (from ≤ end) × (end ≤ length (now s)) ⌝ }
+    ensures { λ r. ⌜ r ≡ anyOf badByte (part (now (s .entry)) from end) ⌝ }
+{
+    let mut i = from;
+    while i < end {
+        if bad_byte(s[i]) {
+            return true;
+        }
+        i += 1;
+    }
+    false
+}
+
+pub fn odd_word(s: &[u8], from: usize) -> WordAt
+    requires { ⌜ from < length (now s) ⌝ }
+    ensures { λ r. ⌜ OddWord (now (s .entry)) from (r .end) (r .fault) ⌝ }
+{
+    let end = word_end(s, from + 1);
+    if any_bad(s, from, end) {
+        return WordAt { end, fault: 4 };
+    }
+    if 256 < end - from {
+        return WordAt { end, fault: 5 };
+    }
+    WordAt { end, fault: 0 }
+}
+
+pub fn plain_end(s: &[u8], t: &[u8; 512], fence: usize, from: usize) -> usize
+    requires { ⌜ (from < fence) × (Table (now t) × Fenced (now s) fence) ⌝ }
+    ensures { λ r. ⌜ PlainEnd (now (s .entry)) from r × (r < fence) ⌝ }
+{
+    let mut i = from;
+    loop {
+        if stops(t, s[i]) {
+            return i;
+        }
+        if stops(t, s[i + 1]) {
+            return i + 1;
+        }
+        if stops(t, s[i + 2]) {
+            return i + 2;
+        }
+        if stops(t, s[i + 3]) {
+            return i + 3;
+        }
+        i += 4;
+    }
+}
+
+pub fn skip(s: &[u8], t: &[u8; 512], from: usize) -> usize
+    requires { ⌜ (from ≤ length (now s)) × Table (now t) ⌝ }
+    ensures { λ r. ⌜ Skipped (now (s .entry)) from r ⌝ }
+{
+    let mut i = from;
+    while i < s.len() {
+        if kind(t, s[i]) != 1 {
+            return i;
+        }
+        i += 1;
+    }
+    i
+}
+
+pub fn skip_fast(s: &[u8], t: &[u8; 512], fence: usize, from: usize) -> usize
+    requires { ⌜ (from < fence) × (Table (now t) × Fenced (now s) fence) ⌝ }
+    ensures { λ r. ⌜ Skipped (now (s .entry)) from r × (r < fence) ⌝ }
+{
+    let mut i = from;
+    loop {
+        if kind(t, s[i]) != 1 {
+            return i;
+        }
+        if kind(t, s[i + 1]) != 1 {
+            return i + 1;
+        }
+        i += 2;
+    }
+}
+
+pub fn comment_end(s: &[u8], from: usize) -> usize
+    requires { ⌜ from ≤ length (now s) ⌝ }
+    ensures { λ r. ⌜ CommentEnd (now (s .entry)) from r ⌝ }
+{
+    let mut i = from;
+    while i < s.len() {
+        if s[i] == 10 {
+            return i + 1;
+        }
+        i += 1;
+    }
+    i
+}
+
+pub fn next_slow(s: &[u8], t: &[u8; 512], from: usize, line: usize) -> Next
+    requires { ⌜ (from ≤ length (now s)) × ((line ≤ from + 1) × Table (now t)) ⌝ }
+    ensures { λ r. ⌜ NextWord (now (s .entry)) from line r ⌝ }
+{
+    let mut i = skip(s, t, from);
+    let mut l = line;
+    while i < s.len() {
+        let b = s[i];
+        if b == 10 {
+            return Next::Stop {
+                next: i + 1,
+                line: l + 1,
+            };
+        }
+        if b == 92 {
+            if peek(s, i + 1) == 10 {
+                l += 1;
+                i = skip(s, t, i + 2);
+                continue;
+            }
+            let w = odd_word(s, i);
+            return Next::Found {
+                start: i,
+                end: w.end,
+                line: l,
+                fault: w.fault,
+            };
+        }
+        if b == 47 {
+            if peek(s, i + 1) == 47 {
+                return Next::Stop {
+                    next: comment_end(s, i + 1),
+                    line: l + 1,
+                };
+            }
+            let w = odd_word(s, i);
+            return Next::Found {
+                start: i,
+                end: w.end,
+                line: l,
+                fault: w.fault,
+            };
+        }
+        let w = odd_word(s, i);
+        return Next::Found {
+            start: i,
+            end: w.end,
+            line: l,
+            fault: w.fault,
+        };
+    }
+    Next::Stop { next: i, line: l }
+}
+
+pub fn next_fast(s: &[u8], t: &[u8; 512], fence: usize, from: usize, line: usize) -> Fast
+    requires { ⌜ Within (now s) (now t) fence from line ⌝ }
+    ensures { λ r. ⌜ FastWord (now (s .entry)) from line r ⌝ }
+{
+    if fence <= from {
+        return Fast::Rest { at: from, line };
+    }
+    let mut i = skip_fast(s, t, fence, from);
+    let mut l = line;
+    loop {
+        let b = s[i];
+        if b == 10 {
+            return Fast::End {
+                next: i + 1,
+                line: l + 1,
+            };
+        }
+        if kind(t, b) == 0 {
+            let p = plain_end(s, t, fence, i + 1);
+            if 2 < kind(t, s[p]) {
+                return Fast::Rest { at: i, line: l };
+            }
+            if i + 256 < p {
+                return Fast::Rest { at: i, line: l };
+            }
+            return Fast::Word {
+                start: i,
+                end: p,
+                line: l,
+            };
+        }
+        if b != 92 {
+            return Fast::Rest { at: i, line: l };
+        }
+        if peek(s, i + 1) != 10 {
+            return Fast::Rest { at: i, line: l };
+        }
+        l += 1;
+        i = skip_fast(s, t, fence, i + 2);
+    }
+}
+
+pub fn next_word(s: &[u8], t: &[u8; 512], fence: usize, from: usize, line: usize) -> Next
+    requires { ⌜ Within (now s) (now t) fence from line ⌝ }
+    ensures { λ r. ⌜ NextWord (now (s .entry)) from line r ⌝ }
+{
+    match next_fast(s, t, fence, from, line) {
+        Fast::Word { start, end, line } => Next::Found {
+            start,
+            end,
+            line,
+            fault: 0,
+        },
+        Fast::End { next, line } => Next::Stop { next, line },
+        Fast::Rest { at, line } => next_slow(s, t, at, line),
+    }
+}
+
+pub fn open_line(s: &[u8], t: &[u8; 512], from: usize, line: usize) -> Opening
+    requires { ⌜ (from ≤ length (now s)) × ((line ≤ from + 1) × Table (now t)) ⌝ }
+    ensures { λ r. ⌜ Opens (now (s .entry)) from line (r .heading) (r .at) (r .line) ⌝ }
+{
+    let mut i = skip(s, t, from);
+    let mut l = line;
+    while i < s.len() {
+        let b = s[i];
+        if b == 33 {
+            return Opening {
+                heading: true,
+                at: i + 1,
+                line: l,
+            };
+        }
+        if b != 92 {
+            return Opening {
+                heading: false,
+                at: i,
+                line: l,
+            };
+        }
+        if peek(s, i + 1) != 10 {
+            return Opening {
+                heading: false,
+                at: i,
+                line: l,
+            };
+        }
+        l += 1;
+        i = skip(s, t, i + 2);
+    }
+    Opening {
+        heading: false,
+        at: i,
+        line: l,
+    }
+}
