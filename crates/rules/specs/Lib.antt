@@ -5,3 +5,4 @@ pub mod Entries
 pub mod Sections
 pub mod Faults
 pub mod Names
+pub mod Splitting

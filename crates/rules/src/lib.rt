@@ -53,3 +53,21 @@ pub enum Piece {
     Prefixed { sign: u8, variable: Variable },
     Unclosed,
 }
+
+// What is counted of a line's words as they are read: all of them; those before the first `=`; whether it was met, and another after it; whether all
+// from the third on are ordinary.
+pub struct Tally {
+    pub count: usize,
+    pub first: usize,
+    pub seen: bool,
+    pub again: bool,
+    pub plain: bool,
+}
+
+// A line, split: its tally, the lowest refusal of its words or 0, the start of the next line and that line's number.
+pub struct Split {
+    pub tally: Tally,
+    pub fault: usize,
+    pub next: usize,
+    pub line: usize,
+}

@@ -1,0 +1,67 @@
+-- A line split into words once: what is kept of them, and where the first ten stand.
+use Prim.Native.Nat.{ℕ, min, _+_, _*_, _≤_, _<_}
+use mathlib.Core.Path.{_≡_}
+use mathlib.Core.List.{List, [], _∷_}
+use mathlib.Core.Bool.{Bool, true, false, _||_, _&&_, cond}
+use lib.ListN.{length, getD, drop, set}
+use lib.Dec.{ltb, leb}
+use Rattle.text.specs.Bytes.{Text, Words, anyOf, allOf, part}
+use Rattle.text.specs.Words.{wordsFault}
+use Rattle.text.specs.Reading.{left, ahead, follow}
+use Rattle.rules.specs.declared.Tally.{Tally}
+use Rattle.rules.specs.declared.Split.{Split}
+use Rattle.rules.specs.Words.{isEquals, ordinary}
+use Rattle.rules.specs.Entries.{before, after}
+
+-- The words of a line, which is lent from where its first word may begin.
+unfoldable pub wordsOf : Text → Words
+wordsOf w = left w 0
+
+-- Most words that a set heading or a rule can have: four columns, `=`, five components.
+abbrev pub mostPlaced : ℕ
+mostPlaced = 10
+
+-- one word more: the words so far, those before the first `=`, whether it has been met, whether another was met after it, and whether all words
+-- from the third on are ordinary
+unfoldable pub tallied : Tally → Text → Tally
+tallied t w =
+    record {
+      count = t .count + 1;
+      first = cond (t .seen || isEquals w) (t .first) (t .first + 1);
+      seen = t .seen || isEquals w;
+      again = cond (t .seen) (t .again || isEquals w) false;
+      plain = cond (ltb (t .count) 2) (t .plain) (t .plain && ordinary w);
+    }
+
+-- the tally of a line
+pub record Tallied (ws : Words) (t : Tally) : Type 0 where
+  pub count : t .count ≡ length ws
+  pub first : t .first ≡ length (before ws)
+  pub again : t .again ≡ anyOf isEquals (after ws)
+  pub plain : t .plain ≡ allOf ordinary (drop 2 ws)
+
+-- where a word is stored
+unfoldable pub stored : Text → ℕ → ℕ → ℕ → Text
+stored t k a e = cond (ltb k mostPlaced) (set (set t (2 * k) a) (2 * k + 1) e) t
+
+-- the part from a to e is the word x
+pub record IsWord (w : Text) (a e : ℕ) (x : Text) : Type 0 where
+  pub low : a ≤ e
+  pub high : e ≤ length w
+  pub text : part w a e ≡ x
+
+-- the places t of the first n words, of which at most ten are placed
+pub record Placed (w t : Text) (ws : Words) (n : ℕ) : Type 0 where
+  pub size : length t ≡ 2 * mostPlaced
+  pub word : (j : ℕ) → j < mostPlaced → j < n → IsWord w (getD t (2 * j) 0) (getD t (2 * j + 1) 0) (getD ws j [])
+
+-- what is known of a line once it is split; its own line is counted as 1
+pub record IsSplit (w t : Text) (r : Split) : Type 0 where
+  pub tally : Tallied (wordsOf w) (r .tally)
+  pub placed : Placed w t (wordsOf w) (length (wordsOf w))
+  pub fault : r .fault ≡ wordsFault (wordsOf w)
+  pub onwards : min 1 (length w) ≤ r .next
+  pub high : r .next ≤ length w
+  pub some : 1 ≤ r .line
+  pub few : r .line ≤ r .next + 1
+  pub onto : ahead w 0 1 ≡ follow w (r .next) (r .line)
