@@ -2,3 +2,4 @@ pub mod Shifted
 pub mod Fresh
 pub mod Joined
 pub mod Numbers
+pub mod Kind

@@ -1,5 +1,7 @@
 // What the lines of a rules file are: the types that its definitions and its readers share.
 
+pub mod words;
+
 // A left column of a set.
 pub enum Column {
     Model,
