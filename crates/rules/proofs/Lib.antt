@@ -3,3 +3,4 @@ pub mod Fresh
 pub mod Joined
 pub mod Numbers
 pub mod Kind
+pub mod Splits

@@ -55,13 +55,12 @@ pub record Placed (w t : Text) (ws : Words) (n : ℕ) : Type 0 where
   pub size : length t ≡ 2 * mostPlaced
   pub word : (j : ℕ) → j < mostPlaced → j < n → IsWord w (getD t (2 * j) 0) (getD t (2 * j + 1) 0) (getD ws j [])
 
--- what is known of a line once it is split; its own line is counted as 1
+-- what is known of a line once it is split; physical lines are counted from 0
 pub record IsSplit (w t : Text) (r : Split) : Type 0 where
   pub tally : Tallied (wordsOf w) (r .tally)
   pub placed : Placed w t (wordsOf w) (length (wordsOf w))
   pub fault : r .fault ≡ wordsFault (wordsOf w)
   pub onwards : min 1 (length w) ≤ r .next
   pub high : r .next ≤ length w
-  pub some : 1 ≤ r .line
   pub few : r .line ≤ r .next + 1
-  pub onto : ahead w 0 1 ≡ follow w (r .next) (r .line)
+  pub onto : ahead w 0 0 ≡ follow w (r .next) (r .line)
