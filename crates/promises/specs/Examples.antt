@@ -11,7 +11,7 @@ use Rattle.text.specs.Words.{badByte, tooLong, wordsFault}
 use Rattle.profile.specs.Profile.{push, fields, dropEmpty, optionsOf, profileOf, layoutCount, Texts}
 use Rattle.profile.specs.Refusals.{outside, longField, badText, textRefusals, countRefusals, profileRefusals}
 use Rattle.rules.specs.Entries.{before, after, setShape, setEntry, groupEntry, headingEntry, ruleEntry, entryOf}
-use Rattle.rules.specs.Faults.{defined, withGroup, leftWords, rightWords, ruleShape, ruleFault, orphans, headFaults, faults, lineFaults, fileRefusals}
+use Rattle.rules.specs.Faults.{defined, withGroup, leftWords, rightWords, ruleShape, shapeFault, ruleFault, orphans, headFaults, faults, lineFaults, fileRefusals}
 use Rattle.rules.specs.Headings.{decimal, upFrom, numberedIn, indexOf, leftItem, componentOf, columnsIn, indexesIn, columnNumber, indexNumber, knownIndex, knownItem, distinct, alike, firstIndex, headingOf, goodItems, hasWord}
 use Rattle.rules.specs.Percent.{whichOf, variableOf, whichLength, variableLength, isPrefix, inParens, pieceAfter, pieceLength, pieces, badWhich, badVariable, badPiece, malformed}
 use Rattle.rules.specs.Sections.{addEntry, sections}
@@ -78,5 +78,5 @@ examples =
     within 4 "! model = symbols\n* = ab+cd\n" (refusal 11 0) ∷ []
 
 pub checked : map resolved examples ≡ map (λ e. e .wanted) examples
-unfolding examples symbols within resolved outcome pairs bytes same empty first rest allOf anyOf concatMap run words heading feeds inside linesOf lines classOf step marks refusedIf refusedAs badByte tooLong wordsFault push fields dropEmpty optionsOf profileOf layoutCount outside longField badText textRefusals countRefusals profileRefusals before after setShape setEntry groupEntry headingEntry ruleEntry entryOf defined withGroup leftWords rightWords ruleShape ruleFault orphans headFaults faults lineFaults fileRefusals decimal upFrom numberedIn indexOf leftItem componentOf columnsIn indexesIn columnNumber indexNumber knownIndex knownItem distinct alike firstIndex headingOf goodItems hasWord whichOf variableOf whichLength variableLength isPrefix inParens pieceAfter pieceLength pieces badWhich badVariable badPiece malformed addEntry sections isEquals isStar hasDollar ordinary isGroupName leftWord isSign signed cuts endsAll stem copy copies spread expanded choose valueOf pieceText filled textsFrom tenTexts sum joined total noRoom refusals firstOf answer valuesOf base additions fired ruleFires setFires headFires firings fileFirings layoutsAt perLayout layoutsOf members wordMatches valueMatches columnMatches ruleMatches isOptions
+unfolding examples symbols within resolved outcome pairs bytes same empty first rest allOf anyOf concatMap run words heading feeds inside linesOf lines classOf step marks refusedIf refusedAs badByte tooLong wordsFault push fields dropEmpty optionsOf profileOf layoutCount outside longField badText textRefusals countRefusals profileRefusals before after setShape setEntry groupEntry headingEntry ruleEntry entryOf defined withGroup leftWords rightWords ruleShape shapeFault ruleFault orphans headFaults faults lineFaults fileRefusals decimal upFrom numberedIn indexOf leftItem componentOf columnsIn indexesIn columnNumber indexNumber knownIndex knownItem distinct alike firstIndex headingOf goodItems hasWord whichOf variableOf whichLength variableLength isPrefix inParens pieceAfter pieceLength pieces badWhich badVariable badPiece malformed addEntry sections isEquals isStar hasDollar ordinary isGroupName leftWord isSign signed cuts endsAll stem copy copies spread expanded choose valueOf pieceText filled textsFrom tenTexts sum joined total noRoom refusals firstOf answer valuesOf base additions fired ruleFires setFires headFires firings fileFirings layoutsAt perLayout layoutsOf members wordMatches valueMatches columnMatches ruleMatches isOptions
 checked = refl

@@ -4,7 +4,7 @@ use native.Mathlib.Omega.{arith}
 use mathlib.Core.Path.{_≡_, refl, sym, ap, _∙_}
 use mathlib.Core.List.{List, [], _∷_, _++_, map}
 use mathlib.Core.Bool.{Bool, true, false, not, _||_, _&&_, cond}
-use lib.ListN.{length, getD, length-append}
+use lib.ListN.{length, take, drop, length-append}
 use lib.Dec.{eqb, leb}
 use borrow.Author.Tests.{lt-leb, eqb-true, not-true}
 use Rattle.text.specs.Limits.{mostGroups}
@@ -16,7 +16,7 @@ use Rattle.rules.specs.Words.{isEquals, isStar, hasDollar, ordinary, isG
 use Rattle.rules.specs.Percent.{malformed}
 use Rattle.rules.specs.Headings.{Heading, hasWord}
 use Rattle.rules.specs.Sections.{Rule, Head, bad, defines, applies, Section}
-use Rattle.rules.specs.Faults.{Group, Groups, defined, withGroup, groupsAfter, leftWords, rightWords, ruleShape, ruleFault, orphans, headFaults, faults}
+use Rattle.rules.specs.Faults.{Group, Groups, defined, withGroup, groupsAfter, leftWords, ruleShape, shapeFault, ruleFault, orphans, headFaults, faults}
 use Rattle.rules.specs.Names.{namesIn, headNames}
 
 -- the word, the section, the sections name none of the groups g
@@ -134,14 +134,17 @@ as-none n p h = go (eqb n 0) (record { number = n; place = p }) h
     go true x k = refl
     go false x k = cc
 
-pub rule-left : (h : Heading) (ws : Words) → eqb (ruleFault h ws) 0 ≡ true → allOf leftWord (leftWords h ws) ≡ true
-unfolding ruleFault ruleShape
-rule-left h ws f = go (ruleShape h ws) refl f
+shape-left : (l r : ℕ) (i : Bool) (ws : Words) → eqb (shapeFault l r i ws) 0 ≡ true → allOf leftWord (take l ws) ≡ true
+unfolding shapeFault ruleShape
+shape-left l r i ws f = go (ruleShape l r ws) refl f
   where
-    go : (t : Bool) → ruleShape h ws ≡ t → eqb (cond t (cond (anyOf (malformed (hasWord (h .index))) (rightWords h ws)) 8 0) 6) 0 ≡ true →
-        allOf leftWord (leftWords h ws) ≡ true
-    go true e k = and-both (allOf leftWord (leftWords h ws)) _ (and-both (eqb (length ws) _) _ e .1) .0
+    go : (t : Bool) → ruleShape l r ws ≡ t → eqb (cond t (cond (anyOf (malformed i) (drop (l + 1) ws)) 8 0) 6) 0 ≡ true → allOf leftWord (take l ws) ≡ true
+    go true e k = and-both (allOf leftWord (take l ws)) _ (and-both (eqb (length ws) (l + 1 + r)) _ e .1) .0
     go false e k = absurd (no k)
+
+rule-left : (h : Heading) (ws : Words) → eqb (ruleFault h ws) 0 ≡ true → allOf leftWord (leftWords h ws) ≡ true
+unfolding ruleFault leftWords
+rule-left h ws f = shape-left (length (h .columns)) (length (h .components)) (hasWord (h .index)) ws f
 
 fresh-rules : (g : Groups) (h : Heading) (rs : List Rule) → concatMap (λ r. refusedAs (ruleFault h (r .text)) (r .number)) rs ≡ [] →
     unnamed g (concatMap (λ r. namesIn (leftWords h (r .text))) rs) ≡ true → allOf (λ r. allOf (freshWord g) (leftWords h (r .text))) rs ≡ true

@@ -1,9 +1,9 @@
 -- Each refusal of a file has a number of document 01.
-use Prim.Native.Nat.{ℕ}
+use Prim.Native.Nat.{ℕ, _+_}
 use mathlib.Core.Path.{_≡_, refl}
 use mathlib.Core.List.{List, [], _∷_, _++_, map}
 use mathlib.Core.Bool.{Bool, true, false, _||_, _&&_, cond}
-use lib.ListN.{length}
+use lib.ListN.{length, drop}
 use lib.Dec.{eqb, ltb, leb}
 use Rattle.text.specs.Limits.{longestFile, mostGroups}
 use Rattle.text.specs.Bytes.{Text, Words, bytes, same, allOf, anyOf, concatMap}
@@ -17,7 +17,7 @@ use Rattle.rules.specs.Percent.{malformed}
 use Rattle.rules.specs.Headings.{Heading, leftItem, componentOf, goodItems, headingOf, hasWord}
 use Rattle.rules.specs.Entries.{Entry, ignored, wrong, group, set, rule, before, after, setShape, setEntry, groupEntry, headingEntry, ruleEntry, entryOf}
 use Rattle.rules.specs.Sections.{Rule, Head, bad, defines, applies, Section, Sections, addEntry, sections}
-use Rattle.rules.specs.Faults.{Groups, defined, withGroup, rightWords, ruleShape, ruleFault, orphans, headFaults, faults, lineFaults, fileRefusals}
+use Rattle.rules.specs.Faults.{Groups, defined, withGroup, ruleShape, shapeFault, ruleFault, orphans, headFaults, faults, lineFaults, fileRefusals}
 
 -- a line that is wrong by itself has a number
 
@@ -92,14 +92,18 @@ unfolding orphans allOf hasNumber isNumber
 orphan-numbers [] = refl
 orphan-numbers (r ∷ rs) = orphan-numbers rs
 
-rule-number : (h : Heading) (ws : Words) → cond (eqb (ruleFault h ws) 0) true (isNumber (ruleFault h ws)) ≡ true
-unfolding ruleFault isNumber
-rule-number h ws = go (ruleShape h ws) (anyOf (malformed (hasWord (h .index))) (rightWords h ws))
+shape-number : (l r : ℕ) (i : Bool) (ws : Words) → cond (eqb (shapeFault l r i ws) 0) true (isNumber (shapeFault l r i ws)) ≡ true
+unfolding shapeFault isNumber
+shape-number l r i ws = go (ruleShape l r ws) (anyOf (malformed i) (drop (l + 1) ws))
   where
     go : (t u : Bool) → cond (eqb (cond t (cond u 8 0) 6) 0) true (isNumber (cond t (cond u 8 0) 6)) ≡ true
     go true true = refl
     go true false = refl
     go false u = refl
+
+rule-number : (h : Heading) (ws : Words) → cond (eqb (ruleFault h ws) 0) true (isNumber (ruleFault h ws)) ≡ true
+unfolding ruleFault
+rule-number h ws = shape-number (length (h .columns)) (length (h .components)) (hasWord (h .index)) ws
 
 head-numbers : (gs : Groups) (n : ℕ) (h : Head) (rs : List Rule) → goodHead h ≡ true → allOf hasNumber (headFaults gs n h rs) ≡ true
 unfolding headFaults goodHead allOf hasNumber isNumber

@@ -42,14 +42,16 @@ leftWords h ws = take (length (h .columns)) ws
 unfoldable pub rightWords : Heading → Words → Words
 rightWords h ws = drop (length (h .columns) + 1) ws
 
-unfoldable pub ruleShape : Heading → Words → Bool
-ruleShape h ws =
-    eqb (length ws) (length (h .columns) + 1 + length (h .components)) &&
-    (allOf leftWord (leftWords h ws) && (isEquals (getD ws (length (h .columns)) []) && allOf ordinary (rightWords h ws)))
+-- l left words and r right words
+unfoldable pub ruleShape : ℕ → ℕ → Words → Bool
+ruleShape l r ws = eqb (length ws) (l + 1 + r) && (allOf leftWord (take l ws) && (isEquals (getD ws l []) && allOf ordinary (drop (l + 1) ws)))
 
--- "rule with a wrong word, word count or `=`": 6. "malformed percent item": 8
+-- "rule with a wrong word, word count or `=`": 6. "malformed percent item": 8. The flag: the heading has one of the four index words.
+unfoldable pub shapeFault : ℕ → ℕ → Bool → Words → ℕ
+shapeFault l r i ws = cond (ruleShape l r ws) (cond (anyOf (malformed i) (drop (l + 1) ws)) 8 0) 6
+
 unfoldable pub ruleFault : Heading → Words → ℕ
-ruleFault h ws = cond (ruleShape h ws) (cond (anyOf (malformed (hasWord (h .index))) (rightWords h ws)) 8 0) 6
+ruleFault h ws = shapeFault (length (h .columns)) (length (h .components)) (hasWord (h .index)) ws
 
 -- "rule before any set heading, or after a group line with no new heading"
 unfoldable pub orphans : List Rule → List Refusal
