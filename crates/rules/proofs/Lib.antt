@@ -4,3 +4,4 @@ pub mod Joined
 pub mod Numbers
 pub mod Kind
 pub mod Splits
+pub mod Pieces
