@@ -5,3 +5,4 @@ pub mod Numbers
 pub mod Kind
 pub mod Splits
 pub mod Pieces
+pub mod Indexes
