@@ -1,3 +1,5 @@
 pub mod Profile
 pub mod Refusals
 pub mod Options
+pub mod Splitting
+pub mod Listing

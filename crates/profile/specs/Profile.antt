@@ -13,6 +13,9 @@ pub record Texts : Type 0 where
   pub variants : Text
   pub options : Text
 
+abbrev pub textsOf : Text → Text → Text → Text → Texts
+textsOf m l v o = record { model = m; layouts = l; variants = v; options = o }
+
 -- a byte before the first field
 unfoldable pub push : ℕ → List Text → List Text
 push b [] = (b ∷ []) ∷ []

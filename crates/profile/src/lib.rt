@@ -1,1 +1,3 @@
-// The four texts of a profile.
+// The four texts of a profile: refusals 1 and 2, the fields of a text, and the options in a table.
+
+pub mod fields;
