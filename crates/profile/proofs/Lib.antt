@@ -1,3 +1,4 @@
 pub mod Options
 pub mod Numbers
 pub mod Splitting
+pub mod Checking

@@ -1,0 +1,12 @@
+use Rattle.profile.proofs.Checking.{outside-low, outside-high}
+use Rattle.profile.proofs.limits.outside.Statement.{statement}
+use Rattle.profile.proofs.limits.outside.Tie as tie
+
+returns : tie.Need-returns
+returns c = outside-low _ (c .if1 .taken)
+
+returns-2 : tie.Need-returns-2
+returns-2 c = outside-high _ (c .if1 .left)
+
+pub outside-spec : {M : Type 1} → statement M
+outside-spec = tie.close (tie.spec returns returns-2)
