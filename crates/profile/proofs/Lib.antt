@@ -2,3 +2,4 @@ pub mod Options
 pub mod Numbers
 pub mod Splitting
 pub mod Checking
+pub mod Listing

@@ -6,3 +6,4 @@ ghost use Rattle.profile.specs.Refusals.{profileRefusals};
 
 pub mod fields;
 pub mod limits;
+pub mod table;
