@@ -3,3 +3,4 @@ pub mod Numbers
 pub mod Splitting
 pub mod Checking
 pub mod Listing
+pub mod Refused

@@ -1,14 +1,13 @@
 -- The options of a text, read field by field, and the table of them.
 use Prim.Native.Nat.{ℕ, zero, suc, _+_, _-_, _*_, _≤_, _<_}
-use native.Mathlib.Nat.{add-zero}
 use native.Mathlib.Numerals.{add-one}
 use native.Mathlib.Omega.{arith}
 use mathlib.Core.Path.{_≡_, refl, sym, ap, _∙_}
 use mathlib.Core.List.{List, [], _∷_, _++_, append-assoc, append-nil}
-use mathlib.Core.Bool.{Bool, true, false, _||_, _&&_, cond}
+use mathlib.Core.Bool.{Bool, true, false, _||_, _&&_}
 use lib.Dec.{leb, ltb}
-use lib.ListN.{length, take, drop, getD, set, length-take, length-drop, length-append, length-set, drop-of-length-le}
-use lib.Seq.{take-all, take-suc-set, take-at, drop-cons, take-append-le, take-set-le}
+use lib.ListN.{length, take, drop, getD, set, length-take, length-drop, length-set, drop-of-length-le}
+use lib.Seq.{take-all, take-suc-set, take-at}
 use borrow.Author.Tests.{le-leb, leb-true, ltb-true, ltb-false}
 use Rattle.text.specs.Limits.{mostOptions}
 use Rattle.text.specs.Bytes.{Text, same, empty, part, anyOf}

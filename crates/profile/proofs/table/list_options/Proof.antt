@@ -1,6 +1,5 @@
 use borrow.Author.Needs.{needs}
 use Prim.Native.Nat.{_-_}
-use native.Mathlib.Omega.{arith}
 use lib.ListN.{length}
 use Rattle.profile.proofs.Listing.{Listing, listing-start, listing-field, listing-none, listing-full, listing-end}
 use Rattle.profile.proofs.table.list_options.Statement.{statement}

@@ -1,6 +1,5 @@
 use borrow.Author.Needs.{needs}
 use Prim.Native.Nat.{_-_}
-use native.Mathlib.Omega.{arith}
 use lib.ListN.{length}
 use Rattle.profile.proofs.Listing.{Tallied, tallied-start, tallied-field, tallied-none, tallied-end}
 use Rattle.profile.proofs.table.option_count.Statement.{statement}
