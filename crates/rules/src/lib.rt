@@ -1,7 +1,7 @@
 // What the lines of a rules file are: the types that its definitions and its readers share.
 
-pub mod lines;
 pub mod headings;
+pub mod lines;
 pub mod percent;
 pub mod words;
 
