@@ -6,3 +6,5 @@ pub mod Kind
 pub mod Splits
 pub mod Pieces
 pub mod Indexes
+pub mod LineByLine
+pub mod LineChecks

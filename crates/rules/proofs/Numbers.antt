@@ -21,7 +21,7 @@ use Rattle.rules.specs.Faults.{Groups, defined, withGroup, ruleShape, sh
 
 -- a line that is wrong by itself has a number
 
-unfoldable goodEntry : Entry → Bool
+unfoldable pub goodEntry : Entry → Bool
 goodEntry ignored = true
 goodEntry (wrong k) = isNumber k
 goodEntry (group g ms) = true
@@ -55,7 +55,7 @@ unfolding ruleEntry goodEntry
 rule-good [] = refl
 rule-good (w ∷ ws) = refl
 
-entry-good : (l : Line) → goodEntry (entryOf l) ≡ true
+pub entry-good : (l : Line) → goodEntry (entryOf l) ≡ true
 unfolding entryOf goodEntry
 entry-good l = go (eqb (wordsFault (l .text)) 0) (words-number (l .text)) (either (l .isHeading) (headingEntry (l .text)) (ruleEntry (l .text)) (heading-good (l .text)) (rule-good (l .text)))
   where

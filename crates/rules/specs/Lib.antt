@@ -6,3 +6,4 @@ pub mod Sections
 pub mod Faults
 pub mod Names
 pub mod Splitting
+pub mod Checking

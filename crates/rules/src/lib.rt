@@ -76,3 +76,35 @@ pub struct Split {
     pub next: usize,
     pub line: usize,
 }
+
+// What a rule is held to by the heading before it: the numbers of its left and right words, and whether `%i` may stand in it. Where no set has begun there is none.
+pub struct Present {
+    pub begun: bool,
+    pub left: usize,
+    pub right: usize,
+    pub indexed: bool,
+}
+
+// What a line is by itself.
+pub enum LineKind {
+    Ignored,
+    Wrong(usize),
+    Group,
+    Set(Present),
+    Rule,
+}
+
+// How far a check has come: the next line's start and number, the groups so far, the present heading, and the refusal of the line before, or 0.
+pub struct Progress {
+    pub at: usize,
+    pub line: usize,
+    pub groups: usize,
+    pub present: Present,
+    pub fault: usize,
+}
+
+// A file's first refusal, or number 0; and how many groups it has.
+pub struct Checked {
+    pub refusal: text::Refusal,
+    pub groups: usize,
+}

@@ -1,0 +1,111 @@
+-- The faults of a file, met line by line: what a loop over the lines knows.
+use Prim.Native.Nat.{ℕ}
+use mathlib.Core.Path.{_≡_, refl, sym, ap, _∙_}
+use mathlib.Core.List.{List, [], _∷_, _++_, append-assoc}
+use mathlib.Core.Option.{Option, none, some}
+use mathlib.Core.Bool.{_||_}
+use lib.ListN.{length}
+use lib.Dec.{leb}
+use Rattle.text.specs.declared.Refusal.{Refusal}
+use Rattle.text.specs.Limits.{mostGroups}
+use Rattle.text.specs.Bytes.{Text, Words, concatMap}
+use Rattle.text.specs.Refusals.{refusedIf, refusedAs}
+use Rattle.text.specs.Lines.{Line, lines}
+use Rattle.rules.specs.Headings.{Heading}
+use Rattle.rules.specs.Entries.{Entry, ignored, wrong, group, set, rule, entryOf}
+use Rattle.rules.specs.Sections.{Rule, bad, defines, applies, Section, addEntry, sections}
+use Rattle.rules.specs.Faults.{Group, Groups, defined, withGroup, groupsAfter, ruleFault, orphans, headFaults, faults, lineFaults}
+use Rattle.rules.specs.Names.{groupsOf}
+use Rattle.rules.proofs.Shifted.{sections-cons, sections-nil}
+
+-- a rule's refusal under the present heading, if there is one
+unfoldable pub ruleFaults : Option Heading → ℕ → Words → List Refusal
+ruleFaults none n ws = record { number = 6; place = n } ∷ []
+ruleFaults (some h) n ws = refusedAs (ruleFault h ws) n
+
+unfoldable pub rulesFaults : Option Heading → List Rule → List Refusal
+rulesFaults h rs = concatMap (λ r. ruleFaults h (r .number) (r .text)) rs
+
+-- what is left to be refused: under the present heading, with the groups so far
+unfoldable pub faultsFrom : Groups → Option Heading → List Line → List Refusal
+faultsFrom gs h ls = rulesFaults h (sections ls .0) ++ faults gs (sections ls .1)
+
+-- one line further, by what the line is
+unfoldable pub nextFaults : Groups → Option Heading → ℕ → Entry → List Line → List Refusal
+nextFaults gs h n ignored ls = faultsFrom gs h ls
+nextFaults gs h n (wrong k) ls = record { number = k; place = n } ∷ faultsFrom gs none ls
+nextFaults gs h n (group g ms) ls =
+    refusedIf (defined gs g || leb mostGroups (length gs)) 10 n ++ faultsFrom (record { name = g; members = ms } ∷ gs) none ls
+nextFaults gs h n (set h′) ls = faultsFrom gs (some h′) ls
+nextFaults gs h n (rule ws) ls = ruleFaults h n ws ++ faultsFrom gs h ls
+
+orphan-rules : (rs : List Rule) → orphans rs ≡ rulesFaults none rs
+unfolding orphans rulesFaults concatMap ruleFaults
+orphan-rules [] = refl
+orphan-rules (r ∷ rs) = ap (λ (l : List Refusal). record { number = 6; place = r .number } ∷ l) (orphan-rules rs)
+
+set-rules : (h : Heading) (rs : List Rule) → concatMap (λ r. refusedAs (ruleFault h (r .text)) (r .number)) rs ≡ rulesFaults (some h) rs
+unfolding rulesFaults concatMap ruleFaults
+set-rules h [] = refl
+set-rules h (r ∷ rs) = ap (λ (l : List Refusal). refusedAs (ruleFault h (r .text)) (r .number) ++ l) (set-rules h rs)
+
+no-rules : (h : Option Heading) → rulesFaults h [] ≡ []
+unfolding rulesFaults concatMap
+no-rules h = refl
+
+more-rules : (h : Option Heading) (r : Rule) (rs : List Rule) → rulesFaults h (r ∷ rs) ≡ ruleFaults h (r .number) (r .text) ++ rulesFaults h rs
+unfolding rulesFaults concatMap
+more-rules h r rs = refl
+
+add-faults : (gs : Groups) (h : Option Heading) (n : ℕ) (e : Entry) (ls : List Line) →
+    rulesFaults h (addEntry n e (sections ls) .0) ++ faults gs (addEntry n e (sections ls) .1) ≡ nextFaults gs h n e ls
+unfolding addEntry nextFaults faultsFrom faults headFaults withGroup
+add-faults gs h n ignored ls = refl
+add-faults gs h n (wrong k) ls = rw (no-rules h, orphan-rules)
+add-faults gs h n (group g ms) ls = rw (no-rules h, orphan-rules, append-assoc)
+add-faults gs h n (set h′) ls = rw (no-rules h, set-rules h′ (sections ls .0))
+add-faults gs h n (rule ws) ls = rw (more-rules, append-assoc)
+
+pub faults-line : (gs : Groups) (h : Option Heading) (l : Line) (ls : List Line) → faultsFrom gs h (l ∷ ls) ≡ nextFaults gs h (l .number) (entryOf l) ls
+unfolding faultsFrom
+faults-line gs h l ls = rw (sections-cons l ls) (add-faults gs h (l .number) (entryOf l) ls)
+
+pub faults-none : (gs : Groups) (h : Option Heading) → faultsFrom gs h [] ≡ []
+unfolding faultsFrom faults
+faults-none gs h = rw (sections-nil, no-rules h)
+
+pub faults-start : (f : Text) → lineFaults f ≡ faultsFrom [] none (lines f)
+unfolding lineFaults faultsFrom
+faults-start f = rw orphan-rules
+
+-- the groups that are defined from a line on
+
+unfoldable pub groupsFrom : Groups → List Line → Groups
+groupsFrom gs ls = groupsAfter gs (sections ls .1)
+
+unfoldable pub nextGroups : Groups → Entry → List Line → Groups
+nextGroups gs ignored ls = groupsFrom gs ls
+nextGroups gs (wrong k) ls = groupsFrom gs ls
+nextGroups gs (group g ms) ls = groupsFrom (record { name = g; members = ms } ∷ gs) ls
+nextGroups gs (set h) ls = groupsFrom gs ls
+nextGroups gs (rule ws) ls = groupsFrom gs ls
+
+add-groups : (gs : Groups) (n : ℕ) (e : Entry) (ls : List Line) → groupsAfter gs (addEntry n e (sections ls) .1) ≡ nextGroups gs e ls
+unfolding addEntry nextGroups groupsFrom groupsAfter withGroup
+add-groups gs n ignored ls = refl
+add-groups gs n (wrong k) ls = refl
+add-groups gs n (group g ms) ls = refl
+add-groups gs n (set h) ls = refl
+add-groups gs n (rule ws) ls = refl
+
+pub groups-line : (gs : Groups) (l : Line) (ls : List Line) → groupsFrom gs (l ∷ ls) ≡ nextGroups gs (entryOf l) ls
+unfolding groupsFrom
+groups-line gs l ls = rw (sections-cons l ls) (add-groups gs (l .number) (entryOf l) ls)
+
+pub groups-none : (gs : Groups) → groupsFrom gs [] ≡ gs
+unfolding groupsFrom groupsAfter
+groups-none gs = rw sections-nil
+
+pub groups-start : (f : Text) → groupsOf f ≡ groupsFrom [] (lines f)
+unfolding groupsOf groupsFrom
+groups-start f = refl

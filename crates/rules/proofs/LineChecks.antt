@@ -1,0 +1,105 @@
+-- The check line by line gives the refusals of a file and the names of its groups.
+use Prim.Native.Nat.{ℕ}
+use mathlib.Core.Path.{_≡_, refl, sym, ap, _∙_}
+use mathlib.Core.List.{List, [], _∷_, _++_, map}
+use mathlib.Core.Option.{Option, none, some}
+use mathlib.Core.Bool.{Bool, true, false, not, _||_, cond}
+use lib.ListN.{length}
+use lib.Dec.{eqb, leb}
+use borrow.Author.Tests.{eqb-true}
+use Rattle.text.specs.declared.Refusal.{Refusal}
+use Rattle.text.specs.Limits.{mostGroups}
+use Rattle.text.specs.Bytes.{Text, Words, same, anyOf}
+use Rattle.text.specs.Refusals.{refusedIf, refusedAs, isNumber}
+use Rattle.text.specs.Lines.{Line, lines}
+use Rattle.text.proofs.Lists.{no}
+use Rattle.rules.specs.declared.Present.{Present}
+use Rattle.rules.specs.Headings.{Heading}
+use Rattle.rules.specs.Entries.{Entry, ignored, wrong, group, set, rule, entryOf}
+use Rattle.rules.specs.Faults.{Group, Groups, defined, shapeFault, ruleFault, lineFaults}
+use Rattle.rules.specs.Names.{groupsOf, definesOf}
+use Rattle.rules.specs.Checking.{noHeading, presentOf, presentFault, lineFault, presentAfter, namesAfter, checkFrom, namesFrom}
+use Rattle.rules.proofs.Numbers.{goodEntry, entry-good}
+use Rattle.rules.proofs.LineByLine.{ruleFaults, faultsFrom, nextFaults, faults-line, faults-none, faults-start, groupsFrom, nextGroups, groups-line, groups-none, groups-start}
+
+unfoldable pub presentBy : Option Heading → Present
+presentBy none = noHeading
+presentBy (some h) = presentOf h
+
+abbrev namesIn : Groups → List Text
+namesIn gs = map (λ g. g .name) gs
+
+rule-by : (h : Option Heading) (n : ℕ) (ws : Words) → ruleFaults h n ws ≡ refusedAs (presentFault (presentBy h) ws) n
+unfolding ruleFaults presentFault presentBy presentOf ruleFault refusedAs refusedIf
+rule-by none n ws = refl
+rule-by (some h) n ws = refl
+
+zero-not : (m : ℕ) → eqb m 0 ≡ true → isNumber m ≡ false
+unfolding isNumber
+zero-not m e = rw (eqb-true m 0 e)
+
+as-wrong : (k n : ℕ) → isNumber k ≡ true → refusedAs k n ≡ record { number = k; place = n } ∷ []
+unfolding refusedAs refusedIf isNumber
+as-wrong k n h = go (eqb k 0) refl (record { number = k; place = n })
+  where
+    go : (t : Bool) → eqb k 0 ≡ t → (x : Refusal) → cond (not t) (x ∷ []) [] ≡ x ∷ []
+    go true e x = absurd (no (sym (zero-not k e) ∙ h))
+    go false e x = refl
+
+defined-names : (gs : Groups) (n : Text) → defined gs n ≡ anyOf (same n) (namesIn gs)
+unfolding defined anyOf
+defined-names [] n = refl
+defined-names (g ∷ gs) n = rw (defined-names gs n)
+
+names-length : (gs : Groups) → length (namesIn gs) ≡ length gs
+names-length [] = refl
+names-length (g ∷ gs) = rw (names-length gs)
+
+if-as : (t : Bool) (n : ℕ) → refusedIf t 10 n ≡ refusedAs (cond t 10 0) n
+unfolding refusedAs refusedIf
+if-as true n = refl
+if-as false n = refl
+
+none-refused : (rs : List Refusal) (n : ℕ) → rs ≡ refusedAs 0 n ++ rs
+unfolding refusedAs refusedIf
+none-refused rs n = refl
+
+next-checked : (gs : Groups) (h : Option Heading) (n : ℕ) (e : Entry) (ls : List Line) → goodEntry e ≡ true →
+    ((gs′ : Groups) (h′ : Option Heading) → faultsFrom gs′ h′ ls ≡ checkFrom (namesIn gs′) (presentBy h′) ls) →
+    nextFaults gs h n e ls ≡ refusedAs (lineFault (namesIn gs) (presentBy h) e) n ++ checkFrom (namesAfter (namesIn gs) e) (presentAfter (presentBy h) e) ls
+unfolding nextFaults lineFault presentAfter namesAfter goodEntry presentBy
+next-checked gs h n ignored ls g ih = ih gs h ∙ none-refused (checkFrom (namesIn gs) (presentBy h) ls) n
+next-checked gs h n (wrong k) ls g ih = rw (as-wrong k n g, ih gs none)
+next-checked gs h n (group m ms) ls g ih =
+    rw (ih (record { name = m; members = ms } ∷ gs) none, defined-names gs m, if-as, names-length gs)
+next-checked gs h n (set h′) ls g ih = ih gs (some h′) ∙ none-refused (checkFrom (namesIn gs) (presentOf h′) ls) n
+next-checked gs h n (rule ws) ls g ih = rw (rule-by h n ws, ih gs h)
+
+pub faults-checked : (gs : Groups) (h : Option Heading) (ls : List Line) → faultsFrom gs h ls ≡ checkFrom (namesIn gs) (presentBy h) ls
+unfolding checkFrom
+faults-checked gs h [] = faults-none gs h
+faults-checked gs h (l ∷ ls) = faults-line gs h l ls ∙ next-checked gs h (l .number) (entryOf l) ls (entry-good l) (λ gs′ h′. faults-checked gs′ h′ ls)
+
+pub lines-checked : (f : Text) → lineFaults f ≡ checkFrom [] noHeading (lines f)
+unfolding presentBy
+lines-checked f = faults-start f ∙ faults-checked [] none (lines f)
+
+-- the names of the groups
+
+next-named : (gs : Groups) (e : Entry) (ls : List Line) → ((gs′ : Groups) → namesIn (groupsFrom gs′ ls) ≡ namesFrom (namesIn gs′) ls) →
+    namesIn (nextGroups gs e ls) ≡ namesFrom (namesAfter (namesIn gs) e) ls
+unfolding nextGroups namesAfter
+next-named gs ignored ls ih = ih gs
+next-named gs (wrong k) ls ih = ih gs
+next-named gs (group m ms) ls ih = ih (record { name = m; members = ms } ∷ gs)
+next-named gs (set h) ls ih = ih gs
+next-named gs (rule ws) ls ih = ih gs
+
+groups-named : (gs : Groups) (ls : List Line) → namesIn (groupsFrom gs ls) ≡ namesFrom (namesIn gs) ls
+unfolding namesFrom
+groups-named gs [] = rw (groups-none gs)
+groups-named gs (l ∷ ls) = rw (groups-line gs l ls) (next-named gs (entryOf l) ls (λ gs′. groups-named gs′ ls))
+
+pub defines-named : (f : Text) → definesOf f ≡ namesFrom [] (lines f)
+unfolding definesOf
+defines-named f = rw (groups-start f) (groups-named [] (lines f))

@@ -1,0 +1,95 @@
+-- The lines of a file, checked one by one: what is carried from line to line are the names of the groups so far and the present heading.
+use Prim.Native.Nat.{ℕ, zero, suc, _+_, _*_, _≤_, _<_}
+use mathlib.Core.Path.{_≡_}
+use mathlib.Core.List.{List, [], _∷_, _++_}
+use mathlib.Core.Bool.{Bool, true, false, _||_, cond}
+use lib.ListN.{length, getD, drop}
+use lib.Dec.{leb}
+use Rattle.text.specs.declared.Refusal.{Refusal}
+use Rattle.text.specs.Limits.{mostGroups}
+use Rattle.text.specs.Bytes.{Text, Words, same, rest, anyOf, part}
+use Rattle.text.specs.Refusals.{refusedAs, firstRefusal}
+use Rattle.text.specs.Lines.{Line}
+use Rattle.rules.specs.declared.Present.{Present}
+use Rattle.rules.specs.declared.LineKind.{LineKind}
+use Rattle.rules.specs.declared.LineKind.the-variants as kind
+use Rattle.rules.specs.declared.Checked.{Checked}
+use Rattle.rules.specs.Headings.{Heading, hasWord}
+use Rattle.rules.specs.Entries.{Entry, ignored, wrong, group, set, rule, entryOf}
+use Rattle.rules.specs.Faults.{shapeFault, fileRefusals}
+use Rattle.rules.specs.Names.{definesOf}
+
+abbrev pub noHeading : Present
+noHeading = record { begun = false; left = 0; right = 0; indexed = false }
+
+unfoldable pub presentOf : Heading → Present
+presentOf h = record { begun = true; left = length (h .columns); right = length (h .components); indexed = hasWord (h .index) }
+
+-- a rule under the present heading
+unfoldable pub presentFault : Present → Words → ℕ
+presentFault p ws = cond (p .begun) (shapeFault (p .left) (p .right) (p .indexed) ws) 6
+
+-- the refusal of a line, or 0
+unfoldable pub lineFault : List Text → Present → Entry → ℕ
+lineFault ns p ignored = 0
+lineFault ns p (wrong k) = k
+lineFault ns p (group g ms) = cond (anyOf (same g) ns || leb mostGroups (length ns)) 10 0
+lineFault ns p (set h) = 0
+lineFault ns p (rule ws) = presentFault p ws
+
+-- what is carried on
+unfoldable pub presentAfter : Present → Entry → Present
+presentAfter p ignored = p
+presentAfter p (wrong k) = noHeading
+presentAfter p (group g ms) = noHeading
+presentAfter p (set h) = presentOf h
+presentAfter p (rule ws) = p
+
+unfoldable pub namesAfter : List Text → Entry → List Text
+namesAfter ns ignored = ns
+namesAfter ns (wrong k) = ns
+namesAfter ns (group g ms) = g ∷ ns
+namesAfter ns (set h) = ns
+namesAfter ns (rule ws) = ns
+
+unfoldable pub checkFrom : List Text → Present → List Line → List Refusal
+checkFrom ns p [] = []
+checkFrom ns p (l ∷ ls) =
+    refusedAs (lineFault ns p (entryOf l)) (l .number) ++ checkFrom (namesAfter ns (entryOf l)) (presentAfter p (entryOf l)) ls
+
+unfoldable pub namesFrom : List Text → List Line → List Text
+namesFrom ns [] = ns
+namesFrom ns (l ∷ ls) = namesFrom (namesAfter ns (entryOf l)) ls
+
+-- the heading that a line is, with at most four columns and five components
+pub record IsSetLine (e : Entry) (p : Present) : Type 0 where
+  pub heading : Heading
+  pub is : e ≡ set heading
+  pub present : p ≡ presentOf heading
+  pub left : p .left ≤ 4
+  pub right : p .right ≤ 5
+
+-- what a line with the words ws is
+unfoldable pub IsKind : Words → Entry → LineKind → Type 0
+IsKind ws e kind.Ignored = e ≡ ignored
+IsKind ws e (kind.Wrong k) = e ≡ wrong k
+IsKind ws e kind.Group = (e ≡ group (rest (getD ws 0 [])) (drop 2 ws)) × (2 ≤ length ws)
+IsKind ws e (kind.Set p) = IsSetLine e p
+IsKind ws e kind.Rule = e ≡ rule ws
+
+-- The names of the first n groups, the last first: the table holds start and end of each name.
+unfoldable pub namesAt : Text → Text → ℕ → List Text
+namesAt s t zero = []
+namesAt s t (suc n) = part s (getD t (2 * n) 0) (getD t (2 * n + 1) 0) ∷ namesAt s t n
+
+-- each name lies in the file
+pub record Named (s t : Text) (n : ℕ) : Type 0 where
+  pub size : length t ≡ 128
+  pub few : n ≤ mostGroups
+  pub within : (j : ℕ) → j < n → (getD t (2 * j) 0 ≤ getD t (2 * j + 1) 0) × (getD t (2 * j + 1) 0 ≤ length s)
+
+-- What a check promises: the first refusal of the file; and, where there is none, where the names of its groups stand.
+pub record Checks (s t : Text) (r : Checked) : Type 0 where
+  pub refusal : r .refusal ≡ firstRefusal (fileRefusals s)
+  pub named : Named s t (r .groups)
+  pub names : r .refusal .number ≡ 0 → namesAt s t (r .groups) ≡ definesOf s
