@@ -8,3 +8,4 @@ pub mod Pieces
 pub mod Indexes
 pub mod LineByLine
 pub mod LineChecks
+pub mod WordLoops
