@@ -1,13 +1,8 @@
 use borrow.Author.Needs.{needs}
 use mathlib.Core.Path.{sym, _∙_}
-use Rattle.profile.proofs.Refused.{refused-model, refused-layouts, refused-variants, refused-options, refused-count, refused-more, refused-many, refused-none}
-use borrow.Author.Needs.{needs}
+use Rattle.profile.proofs.Refused.{Clear, refused-model, refused-layouts, refused-variants, refused-options, refused-count, refused-more, refused-many, refused-none}
 use Rattle.profile.proofs.check.Statement.{statement}
 use Rattle.profile.proofs.check.Tie as tie
-use Rattle.profile.proofs.fields.field_count.Reads as field-count-reads
-use Rattle.profile.proofs.limits.bad_fields.Reads as bad-fields-reads
-use Rattle.profile.proofs.limits.bad_model.Reads as bad-model-reads
-use Rattle.profile.proofs.table.option_count.Reads as option-count-reads
 
 bad-model-requires : tie.Need-bad-model-requires
 bad-model-requires c κs = search needs
@@ -33,34 +28,43 @@ bad-fields-requires-3 c κs = search needs
 returns-4 : tie.Need-returns-4
 returns-4 c = refused-options _ _ _ _ (sym (c .before .before .before .before .before .before .before .bad-model .ensures) ∙ c .before .before .before .before .before .before .if1 .left) (sym (c .before .before .before .before .before .bad-fields .ensures) ∙ c .before .before .before .before .if2 .left) (sym (c .before .before .before .bad-fields2 .ensures) ∙ c .before .before .if3 .left) (sym (c .before .bad-fields3 .ensures) ∙ c .if4 .taken)
 
+clear : (c : tie.Else4) → let a = c .before .before .before .before .before .before .before .before .before .before .before .before .args in Clear (a .model .now) (a .layouts .now) (a .variants .now) (a .options .now)
+clear c =
+    record {
+      model = sym (c .before .before .before .before .before .before .before .bad-model .ensures) ∙ c .before .before .before .before .before .before .if1 .left;
+      layouts = sym (c .before .before .before .before .before .bad-fields .ensures) ∙ c .before .before .before .before .if2 .left;
+      variants = sym (c .before .before .before .bad-fields2 .ensures) ∙ c .before .before .if3 .left;
+      options = sym (c .before .bad-fields3 .ensures) ∙ c .if4 .left;
+    }
+
 field-count-requires : tie.Need-field-count-requires
 field-count-requires c κs = search needs
 
 returns-5 : tie.Need-returns-5
 returns-5 c =
-    refused-count _ _ _ _ (sym (c .before .before .before .before .before .before .before .before .before .bad-model .ensures) ∙ c .before .before .before .before .before .before .before .before .if1 .left) (sym (c .before .before .before .before .before .before .before .bad-fields .ensures) ∙ c .before .before .before .before .before .before .if2 .left) (sym (c .before .before .before .before .before .bad-fields2 .ensures) ∙ c .before .before .before .before .if3 .left) (sym (c .before .before .before .bad-fields3 .ensures) ∙ c .before .before .if4 .left)
-    (rw (c .before .field-count .ensures) at (c .if5 .taken))
+    refused-count _ _ _ _ (clear (c .before .before))
+    _ (c .before .field-count .ensures) (c .if5 .taken)
 
 field-count-requires-2 : tie.Need-field-count-requires-2
 field-count-requires-2 c κs = search needs
 
 returns-6 : tie.Need-returns-6
 returns-6 c =
-    refused-more _ _ _ _ (sym (c .before .before .before .before .before .before .before .before .before .before .before .bad-model .ensures) ∙ c .before .before .before .before .before .before .before .before .before .before .if1 .left) (sym (c .before .before .before .before .before .before .before .before .before .bad-fields .ensures) ∙ c .before .before .before .before .before .before .before .before .if2 .left) (sym (c .before .before .before .before .before .before .before .bad-fields2 .ensures) ∙ c .before .before .before .before .before .before .if3 .left) (sym (c .before .before .before .before .before .bad-fields3 .ensures) ∙ c .before .before .before .before .if4 .left)
-    (rw (c .before .before .before .field-count .ensures) at (c .before .before .if5 .left)) (rw (c .before .before .before .field-count .ensures, c .before .field-count2 .ensures) at (c .if6 .taken))
+    refused-more _ _ _ _ (clear (c .before .before .before .before))
+    _ (c .before .before .before .field-count .ensures) (c .before .before .if5 .left) _ (c .before .field-count2 .ensures) (c .if6 .taken)
 
 option-count-requires : tie.Need-option-count-requires
 option-count-requires c κs = search needs
 
 returns-7 : tie.Need-returns-7
 returns-7 c =
-    refused-many _ _ _ _ (sym (c .before .before .before .before .before .before .before .before .before .before .before .before .before .bad-model .ensures) ∙ c .before .before .before .before .before .before .before .before .before .before .before .before .if1 .left) (sym (c .before .before .before .before .before .before .before .before .before .before .before .bad-fields .ensures) ∙ c .before .before .before .before .before .before .before .before .before .before .if2 .left) (sym (c .before .before .before .before .before .before .before .before .before .bad-fields2 .ensures) ∙ c .before .before .before .before .before .before .before .before .if3 .left) (sym (c .before .before .before .before .before .before .before .bad-fields3 .ensures) ∙ c .before .before .before .before .before .before .if4 .left)
-    (rw (c .before .before .before .before .before .field-count .ensures) at (c .before .before .before .before .if5 .left)) (rw (c .before .before .before .before .before .field-count .ensures, c .before .before .before .field-count2 .ensures) at (c .before .before .if6 .left)) (rw (c .before .option-count .ensures) at (c .if7 .taken))
+    refused-many _ _ _ _ (clear (c .before .before .before .before .before .before))
+    _ (c .before .before .before .before .before .field-count .ensures) (c .before .before .before .before .if5 .left) _ (c .before .before .before .field-count2 .ensures) (c .before .before .if6 .left) _ (c .before .option-count .ensures) (c .if7 .taken)
 
 returns-8 : tie.Need-returns-8
 returns-8 c =
-    refused-none _ _ _ _ (sym (c .before .before .before .before .before .before .before .before .before .before .before .before .before .bad-model .ensures) ∙ c .before .before .before .before .before .before .before .before .before .before .before .before .if1 .left) (sym (c .before .before .before .before .before .before .before .before .before .before .before .bad-fields .ensures) ∙ c .before .before .before .before .before .before .before .before .before .before .if2 .left) (sym (c .before .before .before .before .before .before .before .before .before .bad-fields2 .ensures) ∙ c .before .before .before .before .before .before .before .before .if3 .left) (sym (c .before .before .before .before .before .before .before .bad-fields3 .ensures) ∙ c .before .before .before .before .before .before .if4 .left)
-    (rw (c .before .before .before .before .before .field-count .ensures) at (c .before .before .before .before .if5 .left)) (rw (c .before .before .before .before .before .field-count .ensures, c .before .before .before .field-count2 .ensures) at (c .before .before .if6 .left)) (rw (c .before .option-count .ensures) at (c .if7 .left))
+    refused-none _ _ _ _ (clear (c .before .before .before .before .before .before))
+    _ (c .before .before .before .before .before .field-count .ensures) (c .before .before .before .before .if5 .left) _ (c .before .before .before .field-count2 .ensures) (c .before .before .if6 .left) _ (c .before .option-count .ensures) (c .if7 .left)
 
 pub check-spec : {M : Type 1} → statement M
 check-spec =

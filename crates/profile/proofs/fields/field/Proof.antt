@@ -4,7 +4,6 @@ use Rattle.text.specs.Bytes.{part}
 use Rattle.profile.proofs.Splitting.{Passed, passed-start, passed-more, passed-last, passed-end}
 use Rattle.profile.proofs.fields.field.Statement.{statement}
 use Rattle.profile.proofs.fields.field.Tie as tie
-use Rattle.profile.proofs.fields.field_end.Reads as field-end-reads
 
 abbrev Inv-loop : tie.InvT-loop
 Inv-loop text k start₀ left₀ start left = Passed text k start left

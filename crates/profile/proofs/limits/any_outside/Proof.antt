@@ -5,7 +5,6 @@ use lib.ListN.{length}
 use Rattle.profile.proofs.Checking.{Clean, clean-start, clean-bad, clean-more, clean-end}
 use Rattle.profile.proofs.limits.any_outside.Statement.{statement}
 use Rattle.profile.proofs.limits.any_outside.Tie as tie
-use Rattle.profile.proofs.limits.outside.Reads as outside-reads
 
 abbrev Inv-loop : tie.InvT-loop
 Inv-loop text i₀ i = Clean text i

@@ -5,7 +5,6 @@ use lib.ListN.{length}
 use Rattle.profile.proofs.Checking.{text-long, Sound, sound-start, sound-bad, sound-long, sound-next, sound-more, sound-end}
 use Rattle.profile.proofs.limits.bad_fields.Statement.{statement}
 use Rattle.profile.proofs.limits.bad_fields.Tie as tie
-use Rattle.profile.proofs.limits.outside.Reads as outside-reads
 
 abbrev Inv-loop : tie.InvT-loop
 Inv-loop text start₀ i₀ start i = Sound text start i

@@ -1,9 +1,7 @@
 use borrow.Author.Needs.{needs}
 use Rattle.profile.proofs.Checking.{model-long, model-short}
-use borrow.Author.Needs.{needs}
 use Rattle.profile.proofs.limits.bad_model.Statement.{statement}
 use Rattle.profile.proofs.limits.bad_model.Tie as tie
-use Rattle.profile.proofs.limits.any_outside.Reads as any-outside-reads
 
 returns : tie.Need-returns
 returns c = model-long _ (c .if1 .taken)

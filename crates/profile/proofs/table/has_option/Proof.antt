@@ -5,7 +5,6 @@ use Rattle.text.specs.Bytes.{part}
 use Rattle.profile.proofs.Listing.{Asked, asked-start, asked-placed, asked-found, asked-more, asked-other, asked-end}
 use Rattle.profile.proofs.table.has_option.Statement.{statement}
 use Rattle.profile.proofs.table.has_option.Tie as tie
-use Rattle.text.proofs.compare.same.Reads as same-reads
 
 abbrev Inv-loop : tie.InvT-loop
 Inv-loop options table count word i₀ i = Asked options table word count i

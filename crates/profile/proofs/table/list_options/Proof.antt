@@ -4,7 +4,6 @@ use lib.ListN.{length}
 use Rattle.profile.proofs.Listing.{Listing, listing-start, listing-field, listing-none, listing-full, listing-end}
 use Rattle.profile.proofs.table.list_options.Statement.{statement}
 use Rattle.profile.proofs.table.list_options.Tie as tie
-use Rattle.profile.proofs.fields.field_end.Reads as field-end-reads
 
 abbrev Inv-loop : tie.InvT-loop
 Inv-loop options table₀ count₀ start₀ table count start = Listing options table count start

@@ -4,7 +4,6 @@ use lib.ListN.{length}
 use Rattle.profile.proofs.Listing.{Tallied, tallied-start, tallied-field, tallied-none, tallied-end}
 use Rattle.profile.proofs.table.option_count.Statement.{statement}
 use Rattle.profile.proofs.table.option_count.Tie as tie
-use Rattle.profile.proofs.fields.field_end.Reads as field-end-reads
 
 abbrev Inv-loop : tie.InvT-loop
 Inv-loop options n₀ start₀ n start = Tallied options n start
