@@ -13,6 +13,7 @@ pub record Texts : Type 0 where
   pub variants : Text
   pub options : Text
 
+-- the four texts by their names, for a contract
 abbrev pub textsOf : Text → Text → Text → Text → Texts
 textsOf m l v o = record { model = m; layouts = l; variants = v; options = o }
 

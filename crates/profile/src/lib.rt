@@ -8,56 +8,39 @@ pub mod fields;
 pub mod limits;
 pub mod table;
 
+// A refusal: its number and its place.
+fn refusal(number: usize, place: usize) -> text::Refusal
+    ensures { λ r. ⌜ r ≡ record { number = number; place = place } ⌝ }
+{
+    text::Refusal { number, place }
+}
+
 // The first refusal of a profile: 1 over all texts in turn, then 2 likewise; number 0 where there is none.
 pub fn check(model: &[u8], layouts: &[u8], variants: &[u8], options: &[u8]) -> text::Refusal
     ensures { λ r. ⌜ r ≡ firstRefusal (profileRefusals
         (textsOf (now (model .entry)) (now (layouts .entry)) (now (variants .entry)) (now (options .entry)))) ⌝ }
 {
     if limits::bad_model(model) {
-        return text::Refusal {
-            number: 1,
-            place: 1,
-        };
+        return refusal(1, 1);
     }
     if limits::bad_fields(layouts) {
-        return text::Refusal {
-            number: 1,
-            place: 2,
-        };
+        return refusal(1, 2);
     }
     if limits::bad_fields(variants) {
-        return text::Refusal {
-            number: 1,
-            place: 3,
-        };
+        return refusal(1, 3);
     }
     if limits::bad_fields(options) {
-        return text::Refusal {
-            number: 1,
-            place: 4,
-        };
+        return refusal(1, 4);
     }
     let n = fields::field_count(layouts);
     if 4 < n {
-        return text::Refusal {
-            number: 2,
-            place: 2,
-        };
+        return refusal(2, 2);
     }
     if n < fields::field_count(variants) {
-        return text::Refusal {
-            number: 2,
-            place: 3,
-        };
+        return refusal(2, 3);
     }
     if 64 < table::option_count(options) {
-        return text::Refusal {
-            number: 2,
-            place: 4,
-        };
+        return refusal(2, 4);
     }
-    text::Refusal {
-        number: 0,
-        place: 0,
-    }
+    refusal(0, 0)
 }

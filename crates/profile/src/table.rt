@@ -24,7 +24,7 @@ pub fn option_count(options: &[u8]) -> usize
     n
 }
 
-// Fills the table with the start and the end of each of the first 64 options, and says how many there are.
+// Fills the table with the start and the end of each of the first 64 options, and says how many there are. The rest of the table is 0.
 pub fn list_options(options: &[u8], table: &mut [usize; 128]) -> usize
     ensures { λ r. ⌜ Listed (now (options .entry)) (now (table .exit)) r ⌝ }
 {

@@ -7,26 +7,38 @@ use Rattle.profile.proofs.check.Tie as tie
 bad-model-requires : tie.Need-bad-model-requires
 bad-model-requires c κs = search needs
 
+refusal-requires : tie.Need-refusal-requires
+refusal-requires c κs = search needs
+
 returns : tie.Need-returns
-returns c = refused-model _ _ _ _ (sym (c .before .bad-model .ensures) ∙ c .if1 .taken)
+returns c = c .refusal .ensures ∙ refused-model _ _ _ _ (sym (c .before .before .bad-model .ensures) ∙ c .before .if1 .taken)
 
 bad-fields-requires : tie.Need-bad-fields-requires
 bad-fields-requires c κs = search needs
 
+refusal-requires-2 : tie.Need-refusal-requires-2
+refusal-requires-2 c κs = search needs
+
 returns-2 : tie.Need-returns-2
-returns-2 c = refused-layouts _ _ _ _ (sym (c .before .before .before .bad-model .ensures) ∙ c .before .before .if1 .left) (sym (c .before .bad-fields .ensures) ∙ c .if2 .taken)
+returns-2 c = c .refusal2 .ensures ∙ refused-layouts _ _ _ _ (sym (c .before .before .before .before .bad-model .ensures) ∙ c .before .before .before .if1 .left) (sym (c .before .before .bad-fields .ensures) ∙ c .before .if2 .taken)
 
 bad-fields-requires-2 : tie.Need-bad-fields-requires-2
 bad-fields-requires-2 c κs = search needs
 
+refusal-requires-3 : tie.Need-refusal-requires-3
+refusal-requires-3 c κs = search needs
+
 returns-3 : tie.Need-returns-3
-returns-3 c = refused-variants _ _ _ _ (sym (c .before .before .before .before .before .bad-model .ensures) ∙ c .before .before .before .before .if1 .left) (sym (c .before .before .before .bad-fields .ensures) ∙ c .before .before .if2 .left) (sym (c .before .bad-fields2 .ensures) ∙ c .if3 .taken)
+returns-3 c = c .refusal3 .ensures ∙ refused-variants _ _ _ _ (sym (c .before .before .before .before .before .before .bad-model .ensures) ∙ c .before .before .before .before .before .if1 .left) (sym (c .before .before .before .before .bad-fields .ensures) ∙ c .before .before .before .if2 .left) (sym (c .before .before .bad-fields2 .ensures) ∙ c .before .if3 .taken)
 
 bad-fields-requires-3 : tie.Need-bad-fields-requires-3
 bad-fields-requires-3 c κs = search needs
 
+refusal-requires-4 : tie.Need-refusal-requires-4
+refusal-requires-4 c κs = search needs
+
 returns-4 : tie.Need-returns-4
-returns-4 c = refused-options _ _ _ _ (sym (c .before .before .before .before .before .before .before .bad-model .ensures) ∙ c .before .before .before .before .before .before .if1 .left) (sym (c .before .before .before .before .before .bad-fields .ensures) ∙ c .before .before .before .before .if2 .left) (sym (c .before .before .before .bad-fields2 .ensures) ∙ c .before .before .if3 .left) (sym (c .before .bad-fields3 .ensures) ∙ c .if4 .taken)
+returns-4 c = c .refusal4 .ensures ∙ refused-options _ _ _ _ (sym (c .before .before .before .before .before .before .before .before .bad-model .ensures) ∙ c .before .before .before .before .before .before .before .if1 .left) (sym (c .before .before .before .before .before .before .bad-fields .ensures) ∙ c .before .before .before .before .before .if2 .left) (sym (c .before .before .before .before .bad-fields2 .ensures) ∙ c .before .before .before .if3 .left) (sym (c .before .before .bad-fields3 .ensures) ∙ c .before .if4 .taken)
 
 clear : (c : tie.Else4) → let a = c .before .before .before .before .before .before .before .before .before .before .before .before .args in Clear (a .model .now) (a .layouts .now) (a .variants .now) (a .options .now)
 clear c =
@@ -40,48 +52,60 @@ clear c =
 field-count-requires : tie.Need-field-count-requires
 field-count-requires c κs = search needs
 
+refusal-requires-5 : tie.Need-refusal-requires-5
+refusal-requires-5 c κs = search needs
+
 returns-5 : tie.Need-returns-5
-returns-5 c =
-    refused-count _ _ _ _ (clear (c .before .before))
-    _ (c .before .field-count .ensures) (c .if5 .taken)
+returns-5 c = c .refusal5 .ensures ∙ refused-count _ _ _ _ (clear (c .before .before .before)) _ (c .before .before .field-count .ensures) (c .before .if5 .taken)
 
 field-count-requires-2 : tie.Need-field-count-requires-2
 field-count-requires-2 c κs = search needs
 
+refusal-requires-6 : tie.Need-refusal-requires-6
+refusal-requires-6 c κs = search needs
+
 returns-6 : tie.Need-returns-6
-returns-6 c =
-    refused-more _ _ _ _ (clear (c .before .before .before .before))
-    _ (c .before .before .before .field-count .ensures) (c .before .before .if5 .left) _ (c .before .field-count2 .ensures) (c .if6 .taken)
+returns-6 c = c .refusal6 .ensures ∙ refused-more _ _ _ _ (clear (c .before .before .before .before .before)) _ (c .before .before .before .before .field-count .ensures) (c .before .before .before .if5 .left) _ (c .before .before .field-count2 .ensures) (c .before .if6 .taken)
 
 option-count-requires : tie.Need-option-count-requires
 option-count-requires c κs = search needs
 
+refusal-requires-7 : tie.Need-refusal-requires-7
+refusal-requires-7 c κs = search needs
+
 returns-7 : tie.Need-returns-7
-returns-7 c =
-    refused-many _ _ _ _ (clear (c .before .before .before .before .before .before))
-    _ (c .before .before .before .before .before .field-count .ensures) (c .before .before .before .before .if5 .left) _ (c .before .before .before .field-count2 .ensures) (c .before .before .if6 .left) _ (c .before .option-count .ensures) (c .if7 .taken)
+returns-7 c = c .refusal7 .ensures ∙ refused-many _ _ _ _ (clear (c .before .before .before .before .before .before .before)) _ (c .before .before .before .before .before .before .field-count .ensures) (c .before .before .before .before .before .if5 .left) _ (c .before .before .before .before .field-count2 .ensures) (c .before .before .before .if6 .left) _ (c .before .before .option-count .ensures) (c .before .if7 .taken)
+
+refusal-requires-8 : tie.Need-refusal-requires-8
+refusal-requires-8 c κs = search needs
 
 returns-8 : tie.Need-returns-8
-returns-8 c =
-    refused-none _ _ _ _ (clear (c .before .before .before .before .before .before))
-    _ (c .before .before .before .before .before .field-count .ensures) (c .before .before .before .before .if5 .left) _ (c .before .before .before .field-count2 .ensures) (c .before .before .if6 .left) _ (c .before .option-count .ensures) (c .if7 .left)
+returns-8 c = c .refusal8 .ensures ∙ refused-none _ _ _ _ (clear (c .before .before .before .before .before .before .before)) _ (c .before .before .before .before .before .before .field-count .ensures) (c .before .before .before .before .before .if5 .left) _ (c .before .before .before .before .field-count2 .ensures) (c .before .before .before .if6 .left) _ (c .before .before .option-count .ensures) (c .before .if7 .left)
 
 pub check-spec : {M : Type 1} → statement M
 check-spec =
     tie.close
     (tie.spec
     bad-model-requires
+    refusal-requires
     returns
     bad-fields-requires
+    refusal-requires-2
     returns-2
     bad-fields-requires-2
+    refusal-requires-3
     returns-3
     bad-fields-requires-3
+    refusal-requires-4
     returns-4
     field-count-requires
+    refusal-requires-5
     returns-5
     field-count-requires-2
+    refusal-requires-6
     returns-6
     option-count-requires
+    refusal-requires-7
     returns-7
+    refusal-requires-8
     returns-8)
