@@ -2,7 +2,9 @@
 
 pub mod headings;
 pub mod lines;
+pub mod judge;
 pub mod percent;
+pub mod sets;
 pub mod words;
 
 // A left column of a set.

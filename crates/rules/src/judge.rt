@@ -1,0 +1,89 @@
+// What a split line is, and what a rule's words are held to.
+ghost use mathlib.Core.Path.{_≡_};
+ghost use mathlib.Core.Bool.{cond, true};
+ghost use Prim.Native.Nat.{_≤_, _+_};
+ghost use lib.ListN.{length, take, drop};
+ghost use Rattle.text.specs.Bytes.{allOf, anyOf};
+ghost use Rattle.rules.specs.Words.{leftWord, ordinary};
+ghost use Rattle.rules.specs.Percent.{malformed};
+ghost use Rattle.rules.specs.Faults.{shapeFault};
+ghost use Rattle.rules.specs.Checking.{presentFault};
+ghost use Rattle.rules.specs.Splitting.{wordsOf, Placed};
+use super::Present;
+use super::percent::is_malformed;
+use super::sets::word;
+use super::words::is_equals;
+use super::words::is_left_word;
+use super::words::is_ordinary;
+
+// The first n words may stand on a rule's left side.
+fn left_words(w: &[u8], places: &[usize], n: usize) -> bool
+    requires { ⌜ Placed (now w) (now places) (wordsOf (now w)) (length (wordsOf (now w))) × (n ≤ 10) × (n ≤ length (wordsOf (now w))) ⌝ }
+    ensures { λ r. ⌜ r ≡ allOf leftWord (take n (wordsOf (now (w .entry)))) ⌝ }
+{
+    let mut j: usize = 0;
+    while j < n {
+        if !is_left_word(word(w, places, j)) {
+            return false;
+        }
+        j += 1;
+    }
+    true
+}
+
+// The words from a number on are ordinary.
+fn right_words(w: &[u8], places: &[usize], from: usize, count: usize) -> bool
+    requires { ⌜ Placed (now w) (now places) (wordsOf (now w)) (length (wordsOf (now w))) × (from ≤ count) × (count ≤ 10) × (count ≡ length (wordsOf (now w))) ⌝ }
+    ensures { λ r. ⌜ r ≡ allOf ordinary (drop from (wordsOf (now (w .entry)))) ⌝ }
+{
+    let mut j = from;
+    while j < count {
+        if !is_ordinary(word(w, places, j)) {
+            return false;
+        }
+        j += 1;
+    }
+    true
+}
+
+// One of the words from a number on has a malformed percent item.
+fn any_malformed(w: &[u8], places: &[usize], from: usize, count: usize, indexed: bool) -> bool
+    requires { ⌜ Placed (now w) (now places) (wordsOf (now w)) (length (wordsOf (now w))) × (from ≤ count) × (count ≤ 10) × (count ≡ length (wordsOf (now w))) ⌝ }
+    ensures { λ r. ⌜ r ≡ anyOf (malformed indexed) (drop from (wordsOf (now (w .entry)))) ⌝ }
+{
+    let mut j = from;
+    while j < count {
+        if is_malformed(word(w, places, j), indexed) {
+            return true;
+        }
+        j += 1;
+    }
+    false
+}
+
+// The refusal of a rule under the present heading, 6 or 8, or 0.
+pub fn rule_fault(w: &[u8], places: &[usize], count: usize, p: Present) -> usize
+    requires { ⌜ Placed (now w) (now places) (wordsOf (now w)) (length (wordsOf (now w))) × (count ≡ length (wordsOf (now w))) × (p .left ≤ 4) × (p .right ≤ 5) ⌝ }
+    ensures { λ r. ⌜ r ≡ presentFault p (wordsOf (now (w .entry))) ⌝ }
+{
+    if !p.begun {
+        return 6;
+    }
+    let n = p.left;
+    if count != n + 1 + p.right {
+        return 6;
+    }
+    if !left_words(w, places, n) {
+        return 6;
+    }
+    if !is_equals(word(w, places, n)) {
+        return 6;
+    }
+    if !right_words(w, places, n + 1, count) {
+        return 6;
+    }
+    if any_malformed(w, places, n + 1, count, p.indexed) {
+        return 8;
+    }
+    0
+}
