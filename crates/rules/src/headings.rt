@@ -55,6 +55,7 @@ pub fn index_of(w: &[u8]) -> Index
     numbered(w)
 }
 
+// Whether a word begins with a keyword.
 pub fn begins(w: &[u8], k: &[u8]) -> bool
     ensures { λ r. ⌜ r ≡ sameText (take (length (now (k .entry))) (now (w .entry))) (now (k .entry)) ⌝ }
 {
@@ -65,6 +66,7 @@ pub fn begins(w: &[u8], k: &[u8]) -> bool
     same(&w[0..n], k)
 }
 
+// A left item; its index is what follows `layout` or `variant`.
 pub fn left_item(w: &[u8]) -> Item
     ensures { λ r. ⌜ r ≡ leftItem (now (w .entry)) ⌝ }
 {
@@ -105,8 +107,7 @@ pub fn component_of(w: &[u8]) -> usize
     5
 }
 
-// Numbers to compare columns and indexes by.
-
+// A number to compare columns by.
 pub fn column_number(c: Column) -> usize
     ensures { λ r. ⌜ r ≡ columnNumber c ⌝ }
 {
@@ -118,6 +119,7 @@ pub fn column_number(c: Column) -> usize
     }
 }
 
+// A number to compare indexes by.
 pub fn index_number(i: Index) -> usize
     ensures { λ r. ⌜ r ≡ indexNumber i ⌝ }
 {

@@ -27,6 +27,7 @@ pub fn tail<'a>(w: &'a [u8], at: usize) -> &'a [u8]
     &w[0..0]
 }
 
+// A byte's value as a `usize`.
 pub fn wide(b: u8) -> usize
     ensures { λ r. ⌜ r ≡ b ⌝ }
 {
@@ -154,6 +155,7 @@ pub fn bad_which(indexed: bool, x: Which) -> bool
     }
 }
 
+// Whether a variable is malformed: none after the percent sign, or a bad index.
 pub fn bad_variable(indexed: bool, v: Variable) -> bool
     ensures { λ r. ⌜ r ≡ badVariable indexed v ⌝ }
 {
@@ -165,6 +167,7 @@ pub fn bad_variable(indexed: bool, v: Variable) -> bool
     }
 }
 
+// Whether an item is malformed.
 pub fn bad_piece(indexed: bool, p: Piece) -> bool
     ensures { λ r. ⌜ r ≡ badPiece indexed p ⌝ }
 {

@@ -53,6 +53,7 @@ pub fn is_ordinary(w: &[u8]) -> bool
     }
 }
 
+// `$name` with a name that is not empty.
 pub fn is_group_name(w: &[u8]) -> bool
     ensures { λ r. ⌜ r ≡ isGroupName (now (w .entry)) ⌝ }
 {
@@ -62,6 +63,7 @@ pub fn is_group_name(w: &[u8]) -> bool
     w[0] == b'$'
 }
 
+// A word that may stand on a rule's left side.
 pub fn is_left_word(w: &[u8]) -> bool
     ensures { λ r. ⌜ r ≡ leftWord (now (w .entry)) ⌝ }
 {
