@@ -9,3 +9,4 @@ pub mod Indexes
 pub mod LineByLine
 pub mod LineChecks
 pub mod WordLoops
+pub mod RuleFaults

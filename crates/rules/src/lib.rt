@@ -1,8 +1,8 @@
 // What the lines of a rules file are: the types that its definitions and its readers share.
 
 pub mod headings;
-pub mod lines;
 pub mod judge;
+pub mod lines;
 pub mod percent;
 pub mod sets;
 pub mod words;

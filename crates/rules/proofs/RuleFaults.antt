@@ -1,0 +1,50 @@
+-- The refusal of a rule under the present heading: one law for each way.
+use Prim.Native.Nat.{ℕ, _+_}
+use mathlib.Core.Path.{_≡_, refl, sym, _∙_}
+use mathlib.Core.List.{[]}
+use mathlib.Core.Bool.{Bool, true, false, cond}
+use lib.ListN.{length, getD, take, drop}
+use borrow.Author.Tests.{eq-eqb, ne-eqb}
+use Rattle.text.specs.Bytes.{Text, Words, allOf, anyOf}
+use Rattle.rules.specs.declared.Present.{Present}
+use Rattle.rules.specs.Words.{isEquals, ordinary, leftWord}
+use Rattle.rules.specs.Percent.{malformed}
+use Rattle.rules.specs.Faults.{ruleShape, shapeFault}
+use Rattle.rules.specs.Checking.{presentFault}
+
+module _ (p : Present) (ws : Words) where
+  pub fault-none : p .begun ≡ false → 6 ≡ presentFault p ws
+  unfolding presentFault
+  fault-none h = rw h
+
+  module _ (h : p .begun ≡ true) (count : ℕ) (c : count ≡ length ws) where
+    pub fault-count : (count ≡ p .left + 1 + p .right → ⊥) → 6 ≡ presentFault p ws
+    unfolding presentFault shapeFault ruleShape
+    fault-count n = rw (h, ne-eqb (length ws) _ (λ e. n (c ∙ e)))
+
+    module _ (e : count ≡ p .left + 1 + p .right) where
+      long : length ws ≡ p .left + 1 + p .right
+      long = sym c ∙ e
+
+      pub fault-left : allOf leftWord (take (p .left) ws) ≡ false → 6 ≡ presentFault p ws
+      unfolding presentFault shapeFault ruleShape
+      fault-left l = rw (h, eq-eqb _ _ long, l)
+
+      module _ (l : allOf leftWord (take (p .left) ws) ≡ true) where
+        pub fault-equals : isEquals (getD ws (p .left) []) ≡ false → 6 ≡ presentFault p ws
+        unfolding presentFault shapeFault ruleShape
+        fault-equals q = rw (h, eq-eqb _ _ long, l, q)
+
+        module _ (q : isEquals (getD ws (p .left) []) ≡ true) where
+          pub fault-right : allOf ordinary (drop (p .left + 1) ws) ≡ false → 6 ≡ presentFault p ws
+          unfolding presentFault shapeFault ruleShape
+          fault-right r = rw (h, eq-eqb _ _ long, l, q, r)
+
+          module _ (r : allOf ordinary (drop (p .left + 1) ws) ≡ true) where
+            pub fault-percent : anyOf (malformed (p .indexed)) (drop (p .left + 1) ws) ≡ true → 8 ≡ presentFault p ws
+            unfolding presentFault shapeFault ruleShape
+            fault-percent m = rw (h, eq-eqb _ _ long, l, q, r, m)
+
+            pub fault-fine : anyOf (malformed (p .indexed)) (drop (p .left + 1) ws) ≡ false → 0 ≡ presentFault p ws
+            unfolding presentFault shapeFault ruleShape
+            fault-fine m = rw (h, eq-eqb _ _ long, l, q, r, m)
