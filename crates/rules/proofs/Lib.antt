@@ -10,3 +10,4 @@ pub mod LineByLine
 pub mod LineChecks
 pub mod WordLoops
 pub mod RuleFaults
+pub mod GroupNames

@@ -6,13 +6,13 @@ use native.Mathlib.Numerals.{add-one}
 use mathlib.Core.Path.{_≡_, refl, sym, ap, _∙_}
 use mathlib.Core.List.{List, [], _∷_, _++_}
 use mathlib.Core.Bool.{Bool, true, false, _||_, _&&_, cond, and-assoc, or-assoc}
-use lib.ListN.{length, getD, drop, set, length-set}
-use lib.Seq.{getD-set-same, getD-set-other}
+use lib.ListN.{length, getD, drop}
 use lib.Dec.{ltb}
 use borrow.Author.Tests.{lt-ltb, le-ltb, ltb-true, ltb-false}
 use Rattle.text.specs.Bytes.{Text, Words, anyOf, allOf, part}
 use Rattle.text.specs.Words.{wordsFault}
 use Rattle.text.specs.Reading.{left, ahead, follow, lower, FoundWord, NoWord}
+use Rattle.text.proofs.Pairs.{withPair, pair-length, pair-old, pair-new}
 use Rattle.text.proofs.Readers.{lower-zero, lower-none, lower-assoc, fault-cons, fault-nil}
 use Rattle.rules.specs.declared.Tally.{Tally}
 use Rattle.rules.specs.declared.Split.{Split}
@@ -134,32 +134,23 @@ placed-none w t ws h = record { size = h; word = λ j l m. absurd (omega arith) 
 
 module _ (w t : Text) (ws : Words) (n a e : ℕ) (v : Placed w t ws n) (x : IsWord w a e (getD ws n [])) where
   put : Text
-  put = set (set t (2 * n) a) (2 * n + 1) e
+  put = withPair t n a e
 
   stored-put : ltb n 10 ≡ true → stored t n a e ≡ put
-  unfolding stored put
+  unfolding stored put withPair
   stored-put k = rw k
-
-  put-size : length put ≡ 20
-  unfolding put
-  put-size = simp length-set (v .size)
-
-  put-old : (j : ℕ) → j < n → (getD put (2 * j) 0 ≡ getD t (2 * j) 0) × (getD put (2 * j + 1) 0 ≡ getD t (2 * j + 1) 0)
-  unfolding put
-  put-old j l = (
-    getD-set-other (set t (2 * n) a) (2 * n + 1) (2 * j) e 0 (λ (z : 2 * j ≡ 2 * n + 1). omega arith) ∙ getD-set-other t (2 * n) (2 * j) a 0 (λ (z : 2 * j ≡ 2 * n). omega arith),
-    getD-set-other (set t (2 * n) a) (2 * n + 1) (2 * j + 1) e 0 (λ (z : 2 * j + 1 ≡ 2 * n + 1). omega arith) ∙
-        getD-set-other t (2 * n) (2 * j + 1) a 0 (λ (z : 2 * j + 1 ≡ 2 * n). omega arith),
-  )
 
   put-new : n < 10 → (getD put (2 * n) 0 ≡ a) × (getD put (2 * n + 1) 0 ≡ e)
   unfolding put
-  put-new l =
-      let s₀ : 2 * n < length t = omega (arith, v .size) in
-      let s₁ : 2 * n + 1 < length (set t (2 * n) a) = simp length-set (omega (arith, v .size)) in (
-        getD-set-other (set t (2 * n) a) (2 * n + 1) (2 * n) e 0 (λ (z : 2 * n ≡ 2 * n + 1). omega arith) ∙ getD-set-same t (2 * n) a 0 s₀,
-        getD-set-same (set t (2 * n) a) (2 * n + 1) e 0 s₁,
-      )
+  put-new l = pair-new t n a e (omega (arith, v .size))
+
+  put-old : (j : ℕ) → j < n → (getD put (2 * j) 0 ≡ getD t (2 * j) 0) × (getD put (2 * j + 1) 0 ≡ getD t (2 * j + 1) 0)
+  unfolding put
+  put-old j l = pair-old t n a e j l
+
+  put-size : length put ≡ 20
+  unfolding put
+  put-size = pair-length t n a e ∙ v .size
 
   put-word : n < 10 → (j : ℕ) → j < n + 1 → IsWord w (getD put (2 * j) 0) (getD put (2 * j + 1) 0) (getD ws j [])
   put-word l j m = go (ltb j n) refl

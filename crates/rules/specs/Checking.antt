@@ -88,6 +88,12 @@ pub record Named (s t : Text) (n : ℕ) : Type 0 where
   pub few : n ≤ mostGroups
   pub within : (j : ℕ) → j < n → (getD t (2 * j) 0 ≤ getD t (2 * j + 1) 0) × (getD t (2 * j + 1) 0 ≤ length s)
 
+-- one group more, with the name from a to e: its refusal, 10 or 0, and the table after it
+pub record Adds (s t t′ : Text) (n a e r : ℕ) : Type 0 where
+  pub fault : r ≡ cond (anyOf (same (part s a e)) (namesAt s t n) || leb mostGroups (length (namesAt s t n))) 10 0
+  pub named : r ≡ 0 → Named s t′ (n + 1)
+  pub names : r ≡ 0 → namesAt s t′ (n + 1) ≡ part s a e ∷ namesAt s t n
+
 -- What a check promises: the first refusal of the file; and, where there is none, where the names of its groups stand.
 pub record Checks (s t : Text) (r : Checked) : Type 0 where
   pub refusal : r .refusal ≡ firstRefusal (fileRefusals s)

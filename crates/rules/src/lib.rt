@@ -1,5 +1,6 @@
 // What the lines of a rules file are: the types that its definitions and its readers share.
 
+pub mod check;
 pub mod headings;
 pub mod judge;
 pub mod lines;

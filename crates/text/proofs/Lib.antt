@@ -6,3 +6,4 @@ pub mod Positions
 pub mod ByteKinds
 pub mod Readers
 pub mod Entries
+pub mod Pairs
