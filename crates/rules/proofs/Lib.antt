@@ -11,3 +11,4 @@ pub mod LineChecks
 pub mod WordLoops
 pub mod RuleFaults
 pub mod GroupNames
+pub mod LineKinds

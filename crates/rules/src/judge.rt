@@ -1,18 +1,23 @@
 // What a split line is, and what a rule's words are held to.
 ghost use mathlib.Core.Path.{_≡_};
 ghost use mathlib.Core.Bool.{cond, true};
-ghost use Prim.Native.Nat.{_≤_, _+_};
-ghost use lib.ListN.{length, take, drop};
+ghost use Prim.Native.Nat.{_≤_, _<_, _+_};
+ghost use lib.ListN.{length, getD, take, drop};
+ghost use mathlib.Core.List.{[]};
 ghost use Rattle.text.specs.Bytes.{allOf, anyOf};
 ghost use Rattle.rules.specs.Words.{leftWord, ordinary};
 ghost use Rattle.rules.specs.Percent.{malformed};
 ghost use Rattle.rules.specs.Faults.{shapeFault};
-ghost use Rattle.rules.specs.Checking.{presentFault};
-ghost use Rattle.rules.specs.Splitting.{wordsOf, Placed};
+ghost use Rattle.rules.specs.Entries.{groupEntry};
+ghost use Rattle.rules.specs.Checking.{presentFault, IsKind};
+ghost use Rattle.rules.specs.Splitting.{wordsOf, Placed, Tallied};
+use super::LineKind;
 use super::Present;
+use super::Tally;
 use super::percent::is_malformed;
 use super::sets::word;
 use super::words::is_equals;
+use super::words::is_group_name;
 use super::words::is_left_word;
 use super::words::is_ordinary;
 
@@ -86,4 +91,24 @@ pub fn rule_fault(w: &[u8], places: &[usize], count: usize, p: Present) -> usize
         return 8;
     }
     0
+}
+
+// A heading that begins with a `$` word: a group line, or 6.
+fn group_kind(w: &[u8], places: &[usize], t: Tally) -> LineKind
+    requires { ⌜ Placed (now w) (now places) (wordsOf (now w)) (length (wordsOf (now w))) × Tallied (wordsOf (now w)) t × (0 < length (wordsOf (now w))) ⌝ }
+    ensures { λ r. ⌜ IsKind (wordsOf (now (w .entry))) (groupEntry (getD (wordsOf (now (w .entry))) 0 []) (drop 1 (wordsOf (now (w .entry))))) r ⌝ }
+{
+    if t.count < 2 {
+        return LineKind::Wrong(6);
+    }
+    if !is_group_name(word(w, places, 0)) {
+        return LineKind::Wrong(6);
+    }
+    if !is_equals(word(w, places, 1)) {
+        return LineKind::Wrong(6);
+    }
+    if !t.plain {
+        return LineKind::Wrong(6);
+    }
+    LineKind::Group
 }
