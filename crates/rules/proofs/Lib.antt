@@ -12,3 +12,4 @@ pub mod WordLoops
 pub mod RuleFaults
 pub mod GroupNames
 pub mod LineKinds
+pub mod CheckSteps

@@ -180,7 +180,7 @@ module _ (w t : Text) (ws : Words) (n a e : ℕ) (v : Placed w t ws n) (x : IsWo
 
 pub record Splitting (w t : Text) (n : Tally) (f i l : ℕ) : Type 0 where
   pub high : i ≤ length w
-  pub few : l ≤ i + 1
+  pub few : l ≤ i
   pub rest : drop (n .count) (wordsOf w) ≡ left w i
   pub within : n .count ≤ i
   pub below : n .first ≤ n .count
@@ -226,7 +226,7 @@ module _ (w t : Text) (n : Tally) (f i l : ℕ) (v : Splitting w t n f i l) wher
       let y : Placed w t′ (wordsOf w) (n .count + 1) = placed-more w t (wordsOf w) (n .count) a e (v .placed) x t′ p in
       record {
         high = u .high;
-        few = u .few;
+        few = omega (arith, v .few, u .grow);
         rest = rw c (d .1);
         within = omega (arith, v .within, u .low, u .some, c);
         below = rw q (first-low n (part w a e) (v .below));
@@ -247,7 +247,7 @@ module _ (w t : Text) (n : Tally) (f i l : ℕ) (v : Splitting w t n f i l) wher
         fault = sym (v .fault ∙ rw (u .none, fault-nil, lower-none));
         onwards = omega (arith, v .within, u .onwards);
         high = u .high;
-        few = u .few;
+        few = omega (arith, v .few, u .grow);
         onto = v .onto ∙ u .onto;
       }
 

@@ -10,10 +10,13 @@ use Rattle.text.specs.Limits.{mostGroups}
 use Rattle.text.specs.Bytes.{Text, Words, same, rest, anyOf, part}
 use Rattle.text.specs.Refusals.{refusedAs, firstRefusal}
 use Rattle.text.specs.Lines.{Line}
+use Rattle.text.specs.Reading.{follow}
 use Rattle.rules.specs.declared.Present.{Present}
 use Rattle.rules.specs.declared.LineKind.{LineKind}
 use Rattle.rules.specs.declared.LineKind.the-variants as kind
+use Rattle.rules.specs.declared.Progress.{Progress}
 use Rattle.rules.specs.declared.Checked.{Checked}
+use Rattle.rules.specs.Words.{isGroupName}
 use Rattle.rules.specs.Headings.{Heading, hasWord}
 use Rattle.rules.specs.Entries.{Entry, ignored, wrong, group, set, rule, entryOf}
 use Rattle.rules.specs.Faults.{shapeFault, fileRefusals}
@@ -73,7 +76,7 @@ pub record IsSetLine (e : Entry) (p : Present) : Type 0 where
 unfoldable pub IsKind : Words → Entry → LineKind → Type 0
 IsKind ws e kind.Ignored = e ≡ ignored
 IsKind ws e (kind.Wrong k) = e ≡ wrong k
-IsKind ws e kind.Group = (e ≡ group (rest (getD ws 0 [])) (drop 2 ws)) × (2 ≤ length ws)
+IsKind ws e kind.Group = (e ≡ group (rest (getD ws 0 [])) (drop 2 ws)) × (2 ≤ length ws) × (isGroupName (getD ws 0 []) ≡ true)
 IsKind ws e (kind.Set p) = IsSetLine e p
 IsKind ws e kind.Rule = e ≡ rule ws
 
@@ -93,6 +96,33 @@ pub record Adds (s t t′ : Text) (n a e r : ℕ) : Type 0 where
   pub fault : r ≡ cond (anyOf (same (part s a e)) (namesAt s t n) || leb mostGroups (length (namesAt s t n))) 10 0
   pub named : r ≡ 0 → Named s t′ (n + 1)
   pub names : r ≡ 0 → namesAt s t′ (n + 1) ≡ part s a e ∷ namesAt s t n
+
+-- A check can go on from here.
+pub record Ready (s t : Text) (p : Progress) : Type 0 where
+  pub high : p .at ≤ length s
+  pub few : p .line ≤ p .at + 1
+  pub named : Named s t (p .groups)
+  pub left : p .present .left ≤ 4
+  pub right : p .present .right ≤ 5
+
+-- what is left to be refused, and to be named
+unfoldable pub leftFaults : Text → Text → Progress → List Refusal
+leftFaults s t p = checkFrom (namesAt s t (p .groups)) (p .present) (follow s (p .at) (p .line))
+
+unfoldable pub leftNames : Text → Text → Progress → List Text
+leftNames s t p = namesFrom (namesAt s t (p .groups)) (follow s (p .at) (p .line))
+
+-- one line further: the line is refused, or the rest of the file is left as it was
+pub record Onward (s t t′ : Text) (p r : Progress) : Type 0 where
+  pub ready : Ready s t′ r
+  pub further : p .at < r .at
+  pub faults : leftFaults s t p ≡ leftFaults s t′ r
+  pub names : leftNames s t p ≡ leftNames s t′ r
+
+pub record Steps (s t t′ : Text) (p r : Progress) : Type 0 where
+  pub size : length t′ ≡ 128
+  pub wrong : (r .fault ≡ 0 → ⊥) → firstRefusal (leftFaults s t p) ≡ record { number = r .fault; place = p .line }
+  pub right : r .fault ≡ 0 → Onward s t t′ p r
 
 -- What a check promises: the first refusal of the file; and, where there is none, where the names of its groups stand.
 pub record Checks (s t : Text) (r : Checked) : Type 0 where

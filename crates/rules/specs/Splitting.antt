@@ -62,5 +62,5 @@ pub record IsSplit (w t : Text) (r : Split) : Type 0 where
   pub fault : r .fault ≡ wordsFault (wordsOf w)
   pub onwards : min 1 (length w) ≤ r .next
   pub high : r .next ≤ length w
-  pub few : r .line ≤ r .next + 1
+  pub few : r .line ≤ r .next
   pub onto : ahead w 0 0 ≡ follow w (r .next) (r .line)

@@ -195,7 +195,7 @@ join-in s i f = let k : i + 1 < length s = first-in s (i + 1) f in omega arith
 -- between words
 
 pub between-skip : (s : List ℕ) (from n i : ℕ) → n ≤ from + 1 → Blanks s from i → Between s from n i n
-between-skip s from n i h v = record { low = v .low; high = v .high; few = omega (arith, v .low); text = v .text; onto = v .onto n }
+between-skip s from n i h v = record { low = v .low; high = v .high; few = omega (arith, v .low); grow = omega (arith, v .low); text = v .text; onto = v .onto n }
 
 module _ (s : List ℕ) (from n i m : ℕ) (v : Between s from n i m) where
   pub between-end : length s ≤ i → NoWord s from n i m
@@ -207,6 +207,7 @@ module _ (s : List ℕ) (from n i m : ℕ) (v : Between s from n i m) where
         onwards = omega (arith, h);
         high = v .high;
         few = v .few;
+        grow = v .grow;
         none = v .text ∙ rw (e, marks-nil, words-nil);
         onto = v .onto ∙ rw (e, marks-nil, marks-nil, lines-nil, lines-nil);
       }
@@ -220,6 +221,7 @@ module _ (s : List ℕ) (from n i m : ℕ) (v : Between s from n i m) where
           onwards = omega (arith, v .low);
           high = omega arith;
           few = omega (arith, v .few);
+          grow = omega (arith, v .grow);
           none = v .text ∙ rw (marks-at Space s i h, step-feed Space _ _ e, words-end);
           onto = v .onto ∙ rw (marks-at Space s i h, step-feed Space _ _ e, lines-end);
         }
@@ -235,6 +237,7 @@ module _ (s : List ℕ) (from n i m : ℕ) (v : Between s from n i m) where
           low = omega (arith, v .low, w .low);
           high = w .high;
           few = omega (arith, v .few, w .low);
+          grow = omega (arith, v .grow, w .low);
           text = v .text ∙ (rw (marks-at Space s i h, x, words-gap, marks-at JoinSpace s (i + 1) k, step-feed JoinSpace _ _ g, words-join, q) (w .text));
           onto = v .onto ∙ (rw (marks-at Space s i h, x, lines-gap, marks-at JoinSpace s (i + 1) k, step-feed JoinSpace _ _ g, lines-join, q) (w .onto (m + 1)));
         }
@@ -248,6 +251,7 @@ module _ (s : List ℕ) (from n i m : ℕ) (v : Between s from n i m) where
           onwards = omega (arith, v .low, w .low);
           high = w .high;
           few = omega (arith, v .few, w .low);
+          grow = omega (arith, v .grow, w .low);
           none = v .text ∙ rw (marks-at Space s i h, x, words-gap) (comment-words (drop (i + 1) s));
           onto = v .onto ∙ rw (marks-at Space s i h, x, lines-gap) (w .onto m);
         }
@@ -262,6 +266,7 @@ module _ (s : List ℕ) (from n i m : ℕ) (v : Between s from n i m) where
           some = lo;
           high = w .ends .high;
           few = omega (arith, v .few);
+          grow = omega (arith, v .grow);
           text = v .text ∙ rw (marks-at Space s i h, x, words-char, w .ends .text, w .ends .rest, part-cons s i z lo (w .ends .high));
           onto = v .onto ∙ rw (marks-at Space s i h, x, lines-char) (w .ends .onto m);
           fault = w .fault;
@@ -273,12 +278,13 @@ pub record Opened (s : List ℕ) (from n i m : ℕ) : Type 0 where
   pub low : from ≤ i
   pub high : i ≤ length s
   pub few : m ≤ i + 1
+  pub grow : m + from ≤ n + i
   pub mark : heading (marks Start (drop from s)) ≡ heading (marks Start (drop i s))
   pub text : words false (marks Start (drop from s)) ≡ words false (marks Start (drop i s))
   pub onto : linesOf n true (marks Start (drop from s)) ≡ linesOf m true (marks Start (drop i s))
 
 pub opened-skip : (s : List ℕ) (from n i : ℕ) → n ≤ from + 1 → Blanks s from i → Opened s from n i n
-opened-skip s from n i h v = record { low = v .low; high = v .high; few = omega (arith, v .low); mark = v .mark₀; text = v .text₀; onto = v .onto₀ n }
+opened-skip s from n i h v = record { low = v .low; high = v .high; few = omega (arith, v .low); grow = omega (arith, v .low); mark = v .mark₀; text = v .text₀; onto = v .onto₀ n }
 
 heading-comment : (l : List ℕ) → heading (marks Comment l) ≡ false
 unfolding marks heading step
@@ -340,6 +346,7 @@ module _ (s : List ℕ) (from n i m : ℕ) (v : Opened s from n i m) where
         low = v .low;
         high = v .high;
         few = v .few;
+        grow = v .grow;
         mark = v .mark ∙ rw (e, marks-nil, heading-nil);
         text = v .text ∙ rw (e, marks-nil, marks-nil);
         onto = v .onto ∙ rw (e, marks-nil, marks-nil);
@@ -354,6 +361,7 @@ module _ (s : List ℕ) (from n i m : ℕ) (v : Opened s from n i m) where
           low = omega (arith, v .low);
           high = omega arith;
           few = omega (arith, v .few);
+          grow = omega (arith, v .grow);
           mark = v .mark ∙ rw (marks-at Start s i h, x, heading-bang);
           text = v .text ∙ rw (marks-at Start s i h, x, words-bang);
           onto = v .onto ∙ rw (marks-at Start s i h, x, lines-bang);
@@ -366,6 +374,7 @@ module _ (s : List ℕ) (from n i m : ℕ) (v : Opened s from n i m) where
           low = v .low;
           high = v .high;
           few = v .few;
+          grow = v .grow;
           mark = v .mark ∙ rw (marks-at Start s i h) (same-mark _ _ _ e);
           text = v .text ∙ rw (marks-at Start s i h, marks-at Space s i h, same-step _ _ e);
           onto = v .onto ∙ rw (marks-at Start s i h, marks-at Space s i h, same-step _ _ e);
@@ -381,6 +390,7 @@ module _ (s : List ℕ) (from n i m : ℕ) (v : Opened s from n i m) where
           low = omega (arith, v .low, w .low);
           high = w .high;
           few = omega (arith, v .few, w .low);
+          grow = omega (arith, v .grow, w .low);
           mark = v .mark ∙ (rw (marks-at Start s i h, x, heading-gap, marks-at JoinStart s (i + 1) k, step-feed JoinStart _ _ g, heading-join, q) (w .mark₀));
           text = v .text ∙ (rw (marks-at Start s i h, x, words-gap, marks-at JoinStart s (i + 1) k, step-feed JoinStart _ _ g, words-join, q) (w .text₀));
           onto = v .onto ∙ (rw (marks-at Start s i h, x, lines-gap, marks-at JoinStart s (i + 1) k, step-feed JoinStart _ _ g, lines-join, q) (w .onto₀ (m + 1)));
@@ -545,12 +555,12 @@ at-most r k m e h = omega arith
 
 pub between-then : (s : List ℕ) (from n i m : ℕ) (r : Next) → Between s from n i m → NextWord s i m r → NextWord s from n r
 between-then s from n i m (Found a e m′ f) v w =
-    record { low = omega (arith, v .low, w .low); some = w .some; high = w .high; few = w .few; text = v .text ∙ w .text; onto = v .onto ∙ w .onto; fault = w .fault }
+    record { low = omega (arith, v .low, w .low); some = w .some; high = w .high; few = w .few; grow = omega (arith, v .grow, w .grow); text = v .text ∙ w .text; onto = v .onto ∙ w .onto; fault = w .fault }
 between-then s from n i m (Stop p m′) v w =
-    record { low = omega (arith, v .low, w .low); onwards = omega (arith, v .low, w .onwards); high = w .high; few = w .few; none = v .text ∙ w .none; onto = v .onto ∙ w .onto }
+    record { low = omega (arith, v .low, w .low); onwards = omega (arith, v .low, w .onwards); high = w .high; few = w .few; grow = omega (arith, v .grow, w .grow); none = v .text ∙ w .none; onto = v .onto ∙ w .onto }
 
 pub between-none : (s : List ℕ) (from n : ℕ) → from ≤ length s → n ≤ from + 1 → Between s from n from n
-between-none s from n h k = record { low = omega arith; high = h; few = k; text = refl; onto = refl }
+between-none s from n h k = record { low = omega arith; high = h; few = k; grow = omega arith; text = refl; onto = refl }
 
 pub record OpenAt (s : List ℕ) (from n i m : ℕ) : Type 0 where
   pub opened : Opened s from n i m

@@ -69,7 +69,7 @@ pub record Within (s t : List ℕ) (fence from line : ℕ) : Type 0 where
   pub table : Table t
   pub fenced : Fenced s fence
 
--- what the readers promise
+-- What the readers promise. `grow`: a physical line takes at least one byte.
 
 -- the word that has begun before `at` ends at r
 pub record WordEnd (s : List ℕ) (at r : ℕ) : Type 0 where
@@ -121,6 +121,7 @@ pub record FoundWord (s : List ℕ) (at n a e m f : ℕ) : Type 0 where
   pub some : a < e
   pub high : e ≤ length s
   pub few : m ≤ e + 1
+  pub grow : m + at ≤ n + e
   pub text : left s at ≡ part s a e ∷ left s e
   pub onto : ahead s at n ≡ ahead s e m
   pub fault : f ≡ faultOf (part s a e)
@@ -131,6 +132,7 @@ pub record NoWord (s : List ℕ) (at n p m : ℕ) : Type 0 where
   pub onwards : min (at + 1) (length s) ≤ p
   pub high : p ≤ length s
   pub few : m ≤ p + 1
+  pub grow : m + at ≤ n + p
   pub none : left s at ≡ []
   pub onto : ahead s at n ≡ follow s p m
 
@@ -139,6 +141,7 @@ pub record Between (s : List ℕ) (at n i m : ℕ) : Type 0 where
   pub low : at ≤ i
   pub high : i ≤ length s
   pub few : m ≤ i + 1
+  pub grow : m + at ≤ n + i
   pub text : left s at ≡ left s i
   pub onto : ahead s at n ≡ ahead s i m
 
@@ -156,6 +159,7 @@ pub record Opens (s : List ℕ) (from n : ℕ) (bang : Bool) (at m : ℕ) : Type
   pub low : from ≤ at
   pub high : at ≤ length s
   pub few : m ≤ at + 1
+  pub grow : m + from ≤ n + at
   pub mark : heading (marks Start (drop from s)) ≡ bang
   pub text : words false (marks Start (drop from s)) ≡ left s at
   pub onto : linesOf n true (marks Start (drop from s)) ≡ ahead s at m

@@ -45,7 +45,7 @@ returns-4 c = group-odd (getD (wordsOf (c .before .before .before .before .befor
 
 returns-5 : tie.Need-returns-5
 unfolding IsKind
-returns-5 c = (group-fine (getD (wordsOf (c .before .before .before .before .before .before .before .before .before .before .before .before .args .w .now)) 0 []) (wordsOf (c .before .before .before .before .before .before .before .before .before .before .before .before .args .w .now)) (omega (arith, c .before .before .before .before .before .before .before .before .before .before .before .before .pre .1 .count)) (ap isGroupName (sym (c .before .before .before .before .before .before .before .word .ensures)) ∙ (sym (c .before .before .before .before .before .before .is-group-name .ensures) ∙ not-false _ (c .before .before .before .before .before .if2 .left))) (ap isEquals (sym (c .before .before .before .before .word2 .ensures)) ∙ (sym (c .before .before .before .is-equals .ensures) ∙ not-false _ (c .before .before .if3 .left))) (sym (c .before .before .before .before .before .before .before .before .before .before .before .before .pre .1 .plain) ∙ not-false _ (c .if4 .left)), omega (arith, c .before .before .before .before .before .before .before .before .before .before .before .before .pre .1 .count))
+returns-5 c = (group-fine (getD (wordsOf (c .before .before .before .before .before .before .before .before .before .before .before .before .args .w .now)) 0 []) (wordsOf (c .before .before .before .before .before .before .before .before .before .before .before .before .args .w .now)) (omega (arith, c .before .before .before .before .before .before .before .before .before .before .before .before .pre .1 .count)) (ap isGroupName (sym (c .before .before .before .before .before .before .before .word .ensures)) ∙ (sym (c .before .before .before .before .before .before .is-group-name .ensures) ∙ not-false _ (c .before .before .before .before .before .if2 .left))) (ap isEquals (sym (c .before .before .before .before .word2 .ensures)) ∙ (sym (c .before .before .before .is-equals .ensures) ∙ not-false _ (c .before .before .if3 .left))) (sym (c .before .before .before .before .before .before .before .before .before .before .before .before .pre .1 .plain) ∙ not-false _ (c .if4 .left)), omega (arith, c .before .before .before .before .before .before .before .before .before .before .before .before .pre .1 .count), ap isGroupName (sym (c .before .before .before .before .before .before .before .word .ensures)) ∙ (sym (c .before .before .before .before .before .before .is-group-name .ensures) ∙ not-false _ (c .before .before .before .before .before .if2 .left)))
 
 pub group-kind-spec : {M : Type 1} → statement M
 group-kind-spec =

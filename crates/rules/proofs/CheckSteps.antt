@@ -1,0 +1,136 @@
+-- One line of a check: the line that is read, and what is carried on.
+use Prim.Native.Nat.{ℕ, zero, suc, _+_, _*_, _-_, _≤_, _<_}
+use native.Mathlib.Omega.{arith}
+use native.Mathlib.Nat.{zero-add, add-comm}
+use mathlib.Core.Path.{_≡_, refl, sym, ap, _∙_}
+use mathlib.Core.List.{List, [], _∷_, _++_, map}
+use mathlib.Core.Bool.{Bool, true, false, not, _||_, cond}
+use lib.ListN.{length, getD, drop, length-drop}
+use lib.Seq.{drop-drop, getD-drop}
+use lib.Dec.{eqb, leb}
+use borrow.Author.Tests.{ne-eqb}
+use Rattle.text.specs.declared.Refusal.{Refusal}
+use Rattle.text.specs.declared.Place.the-variants.{Start, Space}
+use Rattle.text.specs.Limits.{mostGroups}
+use Rattle.text.specs.Bytes.{Text, Words, same, rest, anyOf, part}
+use Rattle.text.specs.Refusals.{refusedIf, refusedAs, firstRefusal}
+use Rattle.text.specs.Marks.{marks}
+use Rattle.text.specs.Lines.{Line, linesOf, words, heading}
+use Rattle.text.specs.Reading.{left, ahead, follow, Fenced, Opens}
+use Rattle.text.proofs.Joined.{shifted, linesOf-shift}
+use Rattle.text.proofs.Readers.{lineAt, line-first}
+use Rattle.text.proofs.Positions.{part-cons, part-of-part}
+use Rattle.rules.specs.declared.Present.{Present}
+use Rattle.rules.specs.declared.LineKind.{LineKind}
+use Rattle.rules.specs.declared.LineKind.the-variants as kind
+use Rattle.rules.specs.declared.Progress.{Progress}
+use Rattle.rules.specs.declared.Split.{Split}
+use Rattle.rules.specs.Entries.{Entry, ignored, wrong, group, set, rule, entryOf}
+use Rattle.rules.specs.Splitting.{wordsOf, IsWord, IsSplit}
+use Rattle.rules.specs.Checking.{noHeading, presentFault, lineFault, presentAfter, namesAfter, checkFrom, namesFrom, IsSetLine, IsKind, namesAt, Named, Adds, Ready, leftFaults, leftNames, Onward, Steps}
+use Rattle.rules.proofs.LineKinds.{lineOf}
+
+-- the fence in a part of the file
+pub fence-part : (s : Text) (f from : ℕ) → Fenced s f → Fenced (drop from s) (f - from)
+fence-part s f from v =
+    record {
+      high = simp length-drop (omega (arith, v .high));
+      last = λ (h : 0 < f - from).
+          let e : from + (f - from - 1) ≡ f - 1 = omega arith in
+          getD-drop from s (f - from - 1) 0 ∙ (rw e (v .last (omega arith)));
+      free = λ (h : 1 < f - from) q.
+          let e : from + (f - from - 2) ≡ f - 2 = omega arith in
+          v .free (omega arith) (rw e at (sym (getD-drop from s (f - from - 2) 0) ∙ q));
+    }
+
+-- the line that is read, and the lines after it
+module _ (s t : Text) (at n : ℕ) (h : Bool) (from m : ℕ) (r : Split) (lt : at < length s) (o : Opens s at n h from m) (v : IsSplit (drop from s) t r) where
+  pub line-read : follow s at n ≡ lineOf n h (wordsOf (drop from s)) ∷ follow s (from + r .next) (m + r .line)
+  unfolding follow lineAt left ahead wordsOf
+  line-read =
+      let x : linesOf m true (marks Space (drop from s)) ≡ linesOf (r .line + m) false (marks Start (drop (r .next) (drop from s))) =
+      ap (λ (k : ℕ). linesOf k true (marks Space (drop from s))) (sym (zero-add m)) ∙
+      (linesOf-shift m 0 true (marks Space (drop from s)) ∙
+      (ap (map (shifted m)) (v .onto) ∙ sym (linesOf-shift m (r .line) false (marks Start (drop (r .next) (drop from s)))))) in
+      rw (line-first s n at lt, o .mark, o .text, o .onto, x, add-comm (r .line) m, drop-drop (r .next) from s)
+
+  pub line-high : from + r .next ≤ length s
+  line-high = let k : r .next ≤ length s - from = rw (length-drop from s) at (v .high) in omega (arith, o .high, k)
+
+  pub line-on : at < from + r .next
+  line-on =
+      let k : min-of (length s - from) ≤ r .next = low in
+      omega (arith, lt, o .low, o .high, k)
+    where
+      min-of : ℕ → ℕ
+      min-of k = Prim.Native.Nat.min 1 k
+      low : min-of (length s - from) ≤ r .next
+      low = rw (length-drop from s) at (v .onwards)
+
+  pub line-few : m + r .line ≤ from + r .next + 1
+  line-few = omega (arith, o .few, v .few)
+
+-- a refusal before others, and none
+refused-first : (f n : ℕ) (rs : List Refusal) → (f ≡ 0 → ⊥) → firstRefusal (refusedAs f n ++ rs) ≡ record { number = f; place = n }
+unfolding refusedAs refusedIf firstRefusal
+refused-first f n rs h = rw (ne-eqb f 0 h)
+
+refused-none : (f n : ℕ) (rs : List Refusal) → f ≡ 0 → refusedAs f n ++ rs ≡ rs
+unfolding refusedAs refusedIf
+refused-none f n rs h = rw h
+
+check-cons : (ns : List Text) (p : Present) (l : Line) (ls : List Line) → checkFrom ns p (l ∷ ls) ≡
+    refusedAs (lineFault ns p (entryOf l)) (l .number) ++ checkFrom (namesAfter ns (entryOf l)) (presentAfter p (entryOf l)) ls
+unfolding checkFrom
+check-cons ns p l ls = refl
+
+names-cons : (ns : List Text) (l : Line) (ls : List Line) → namesFrom ns (l ∷ ls) ≡ namesFrom (namesAfter ns (entryOf l)) ls
+unfolding namesFrom
+names-cons ns l ls = refl
+
+left-is : (s t : Text) (p : Progress) → leftFaults s t p ≡ checkFrom (namesAt s t (p .groups)) (p .present) (follow s (p .at) (p .line))
+unfolding leftFaults
+left-is s t p = refl
+
+names-is : (s t : Text) (p : Progress) → leftNames s t p ≡ namesFrom (namesAt s t (p .groups)) (follow s (p .at) (p .line))
+unfolding leftNames
+names-is s t p = refl
+
+-- what a line carries on: its refusal, and where there is none the names and the heading after it
+pub record Carries (s t t′ : Text) (p r : Progress) (e : Entry) : Type 0 where
+  pub size : length t′ ≡ 128
+  pub fault : r .fault ≡ lineFault (namesAt s t (p .groups)) (p .present) e
+  pub named : r .fault ≡ 0 → Named s t′ (r .groups)
+  pub names : r .fault ≡ 0 → namesAt s t′ (r .groups) ≡ namesAfter (namesAt s t (p .groups)) e
+  pub present : r .fault ≡ 0 → r .present ≡ presentAfter (p .present) e
+  pub left : r .fault ≡ 0 → r .present .left ≤ 4
+  pub right : r .fault ≡ 0 → r .present .right ≤ 5
+
+module _ (s t t′ : Text) (p r : Progress) (ws : Words) (h : Bool)
+    (read : follow s (p .at) (p .line) ≡ lineOf (p .line) h ws ∷ follow s (r .at) (r .line))
+    (v : Carries s t t′ p r (entryOf (lineOf (p .line) h ws))) where
+  left-faults : leftFaults s t p ≡ refusedAs (r .fault) (p .line) ++
+      checkFrom (namesAfter (namesAt s t (p .groups)) (entryOf (lineOf (p .line) h ws))) (presentAfter (p .present) (entryOf (lineOf (p .line) h ws))) (follow s (r .at) (r .line))
+  unfolding leftFaults
+  left-faults = rw (read, check-cons, v .fault)
+
+  pub carried : p .at < r .at → r .at ≤ length s → r .line ≤ r .at + 1 → Steps s t t′ p r
+  carried on high few =
+      record {
+        size = v .size;
+        wrong = λ z. rw left-faults (refused-first (r .fault) (p .line) _ z);
+        right = λ z.
+            record {
+              ready = record { high = high; few = few; named = v .named z; left = v .left z; right = v .right z };
+              further = on;
+              faults = left-faults ∙ (refused-none (r .fault) (p .line) _ z ∙ carried-faults z);
+              names = carried-names z;
+            };
+      }
+    where
+      carried-faults : r .fault ≡ 0 →
+          checkFrom (namesAfter (namesAt s t (p .groups)) (entryOf (lineOf (p .line) h ws))) (presentAfter (p .present) (entryOf (lineOf (p .line) h ws))) (follow s (r .at) (r .line)) ≡
+          leftFaults s t′ r
+      carried-faults z = rw (← v .names z, ← v .present z) (sym (left-is s t′ r))
+      carried-names : r .fault ≡ 0 → leftNames s t p ≡ leftNames s t′ r
+      carried-names z = names-is s t p ∙ rw (read, names-cons, ← v .names z) (sym (names-is s t′ r))
