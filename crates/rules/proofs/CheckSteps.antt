@@ -4,7 +4,7 @@ use native.Mathlib.Omega.{arith}
 use native.Mathlib.Nat.{zero-add, add-comm}
 use mathlib.Core.Path.{_≡_, refl, sym, ap, _∙_}
 use mathlib.Core.List.{List, [], _∷_, _++_, map}
-use mathlib.Core.Bool.{Bool, true, false, not, _||_, cond}
+use mathlib.Core.Bool.{Bool, true, false, not, _||_, _&&_, cond, and-false}
 use lib.ListN.{length, getD, drop, length-drop}
 use lib.Seq.{drop-drop, getD-drop}
 use lib.Dec.{eqb, leb}
@@ -12,22 +12,25 @@ use borrow.Author.Tests.{ne-eqb}
 use Rattle.text.specs.declared.Refusal.{Refusal}
 use Rattle.text.specs.declared.Place.the-variants.{Start, Space}
 use Rattle.text.specs.Limits.{mostGroups}
-use Rattle.text.specs.Bytes.{Text, Words, same, rest, anyOf, part}
-use Rattle.text.specs.Refusals.{refusedIf, refusedAs, firstRefusal}
+use Rattle.text.specs.Bytes.{Text, Words, same, empty, first, rest, anyOf, part}
+use Rattle.text.specs.Refusals.{refusedIf, refusedAs, firstRefusal, isNumber}
 use Rattle.text.specs.Marks.{marks}
 use Rattle.text.specs.Lines.{Line, linesOf, words, heading}
 use Rattle.text.specs.Reading.{left, ahead, follow, Fenced, Opens}
 use Rattle.text.proofs.Joined.{shifted, linesOf-shift}
 use Rattle.text.proofs.Readers.{lineAt, line-first}
-use Rattle.text.proofs.Positions.{part-cons, part-of-part}
+use Rattle.text.proofs.Lists.{no}
+use Rattle.text.proofs.Positions.{length-part, part-cons, part-of-part}
 use Rattle.rules.specs.declared.Present.{Present}
 use Rattle.rules.specs.declared.LineKind.{LineKind}
 use Rattle.rules.specs.declared.LineKind.the-variants as kind
 use Rattle.rules.specs.declared.Progress.{Progress}
 use Rattle.rules.specs.declared.Split.{Split}
+use Rattle.rules.specs.Words.{hasDollar, isGroupName}
 use Rattle.rules.specs.Entries.{Entry, ignored, wrong, group, set, rule, entryOf}
 use Rattle.rules.specs.Splitting.{wordsOf, IsWord, IsSplit}
 use Rattle.rules.specs.Checking.{noHeading, presentFault, lineFault, presentAfter, namesAfter, checkFrom, namesFrom, IsSetLine, IsKind, namesAt, Named, Adds, Ready, leftFaults, leftNames, Onward, Steps}
+use Rattle.rules.proofs.Numbers.{goodEntry}
 use Rattle.rules.proofs.LineKinds.{lineOf}
 
 -- the fence in a part of the file
@@ -64,6 +67,7 @@ module _ (s t : Text) (at n : ℕ) (h : Bool) (from m : ℕ) (r : Split) (lt : a
     where
       min-of : ℕ → ℕ
       min-of k = Prim.Native.Nat.min 1 k
+
       low : min-of (length s - from) ≤ r .next
       low = rw (length-drop from s) at (v .onwards)
 
@@ -132,5 +136,118 @@ module _ (s t t′ : Text) (p r : Progress) (ws : Words) (h : Bool)
           checkFrom (namesAfter (namesAt s t (p .groups)) (entryOf (lineOf (p .line) h ws))) (presentAfter (p .present) (entryOf (lineOf (p .line) h ws))) (follow s (r .at) (r .line)) ≡
           leftFaults s t′ r
       carried-faults z = rw (← v .names z, ← v .present z) (sym (left-is s t′ r))
+
       carried-names : r .fault ≡ 0 → leftNames s t p ≡ leftNames s t′ r
       carried-names z = names-is s t p ∙ rw (read, names-cons, ← v .names z) (sym (names-is s t′ r))
+
+zero-none : (k : ℕ) → k ≡ 0 → isNumber k ≡ true → ⊥
+unfolding isNumber
+zero-none k z q = no (rw z at q)
+
+rest-cons : (b : ℕ) (r : Text) → rest (b ∷ r) ≡ r
+unfolding rest
+rest-cons b r = refl
+
+-- each kind of line
+
+module _ (s t : Text) (p : Progress) (a l : ℕ) (w : Ready s t p) (e : Entry) where
+  pub carries-ignored : e ≡ ignored → Carries s t t p (record { at = a; line = l; groups = p .groups; present = p .present; fault = 0 }) e
+  unfolding lineFault namesAfter presentAfter
+  carries-ignored h =
+      rw h
+      (record {
+        size = w .named .size;
+        fault = refl;
+        named = λ z. w .named;
+        names = λ z. refl;
+        present = λ z. refl;
+        left = λ z. w .left;
+        right = λ z. w .right;
+      })
+
+  pub carries-wrong : (k : ℕ) → goodEntry e ≡ true → e ≡ wrong k → Carries s t t p (record { at = a; line = l; groups = p .groups; present = p .present; fault = k }) e
+  unfolding lineFault goodEntry
+  carries-wrong k g h =
+      let q : isNumber k ≡ true = rw h at g in
+      let n : k ≡ 0 → ⊥ = λ z. zero-none k z q in
+      record {
+        size = w .named .size;
+        fault = rw h;
+        named = λ z. absurd (n z);
+        names = λ z. absurd (n z);
+        present = λ z. absurd (n z);
+        left = λ z. absurd (n z);
+        right = λ z. absurd (n z);
+      }
+
+  pub carries-set : (q : Present) → IsSetLine e q → Carries s t t p (record { at = a; line = l; groups = p .groups; present = q; fault = 0 }) e
+  unfolding lineFault namesAfter presentAfter
+  carries-set q h =
+      rw (h .is)
+      (record {
+        size = w .named .size;
+        fault = refl;
+        named = λ z. w .named;
+        names = λ z. refl;
+        present = λ z. h .present;
+        left = λ z. h .left;
+        right = λ z. h .right;
+      })
+
+  pub carries-rule : (ws : Words) (f : ℕ) → e ≡ rule ws → f ≡ presentFault (p .present) ws →
+      Carries s t t p (record { at = a; line = l; groups = p .groups; present = p .present; fault = f }) e
+  unfolding lineFault namesAfter presentAfter
+  carries-rule ws f h k =
+      rw h
+      (record {
+        size = w .named .size;
+        fault = k;
+        named = λ z. w .named;
+        names = λ z. refl;
+        present = λ z. refl;
+        left = λ z. w .left;
+        right = λ z. w .right;
+      })
+
+  pub carries-group : (t′ g : Text) (ms : Words) (x y f : ℕ) → e ≡ group g ms → g ≡ part s x y → length t′ ≡ 128 → Adds s t t′ (p .groups) x y f →
+      Carries s t t′ p (record { at = a; line = l; groups = p .groups + 1; present = noHeading; fault = f }) e
+  unfolding lineFault namesAfter presentAfter
+  carries-group t′ g ms x y f h k z v =
+      rw (h, k)
+      (record {
+        size = z;
+        fault = v .fault;
+        named = v .named;
+        names = v .names;
+        present = λ q. refl;
+        left = λ q. omega arith;
+        right = λ q. omega arith;
+      })
+
+-- the name of a group line within the file
+
+name-long : (x : Text) → isGroupName x ≡ true → 2 ≤ length x
+unfolding isGroupName hasDollar first rest empty
+name-long [] h = absurd (no h)
+name-long (b ∷ []) h = absurd (no (sym (and-false (eqb b 36)) ∙ h))
+name-long (b ∷ c ∷ x) h = omega arith
+
+module _ (s : Text) (from x y : ℕ) (g : Text) (le : from ≤ length s) (v : IsWord (drop from s) x y g) (n : isGroupName g ≡ true) where
+  in-file : y ≤ length s - from
+  in-file = rw (length-drop from s) at (v .high)
+
+  long-name : 2 ≤ y - x
+  long-name =
+      let e : length g ≡ y - x = ap length (sym (v .text)) ∙ length-part (drop from s) x y (v .high) in
+      omega (arith, e, name-long g n)
+
+  pub name-low : from + x + 1 ≤ from + y
+  name-low = omega (arith, long-name)
+
+  pub name-high : from + y ≤ length s
+  name-high = omega (arith, le, in-file)
+
+  pub name-text : rest g ≡ part s (from + x + 1) (from + y)
+  name-text =
+      let e : g ≡ part s (from + x) (from + y) = sym (v .text) ∙ part-of-part s from x y in
+      ap rest (e ∙ part-cons s (from + x) (from + y) (omega (arith, long-name)) name-high) ∙ rest-cons (getD s (from + x) 0) (part s (from + x + 1) (from + y))
