@@ -13,3 +13,4 @@ pub mod RuleFaults
 pub mod GroupNames
 pub mod LineKinds
 pub mod CheckSteps
+pub mod Listings

@@ -7,3 +7,4 @@ pub mod Faults
 pub mod Names
 pub mod Splitting
 pub mod Checking
+pub mod Sets

@@ -110,4 +110,28 @@ pub struct Progress {
 pub struct Checked {
     pub refusal: text::Refusal,
     pub groups: usize,
+// Numbers kept in order; `good` as long as none is repeated and there are at most five.
+pub struct Listing {
+    pub good: bool,
+    pub count: usize,
+    pub items: [usize; 5],
+}
+
+// The left items of a heading as they are read: whether each is known and the indexes are alike, the columns by their numbers, whether an index was
+// met, and the first one.
+pub struct LeftSide {
+    pub good: bool,
+    pub columns: Listing,
+    pub met: bool,
+    pub index: Index,
+}
+
+// The heading of a set: its columns by their numbers, its index, its components by theirs. `left` and `right` count them.
+pub struct SetHeading {
+    pub good: bool,
+    pub left: usize,
+    pub columns: [usize; 5],
+    pub index: Index,
+    pub right: usize,
+    pub components: [usize; 5],
 }
