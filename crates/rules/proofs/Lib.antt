@@ -14,3 +14,4 @@ pub mod GroupNames
 pub mod LineKinds
 pub mod CheckSteps
 pub mod Listings
+pub mod Sides

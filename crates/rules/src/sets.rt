@@ -142,3 +142,48 @@ pub fn add_item(s: LeftSide, x: Item) -> LeftSide
         }
     }
 }
+
+fn left_side(w: &[u8], places: &[usize], first: usize) -> LeftSide
+    requires { ⌜ Placed (now w) (now places) (wordsOf (now w)) (length (wordsOf (now w)))
+        × (first ≡ length (before (wordsOf (now w))))
+        × (first ≤ 10) ⌝ }
+    ensures { λ r. ⌜ r ≡ withItems noItems (map leftItem (before (wordsOf (now (w .entry))))) ⌝ }
+{
+    let columns = Listing {
+        good: true,
+        count: 0,
+        items: [0; 5],
+    };
+    let mut s = LeftSide {
+        good: true,
+        columns,
+        met: false,
+        index: Index::Absent,
+    };
+    let mut i: usize = 0;
+    while i < first {
+        s = add_item(s, left_item(word(w, places, i)));
+        i += 1;
+    }
+    s
+}
+
+fn right_side(w: &[u8], places: &[usize], from: usize, count: usize) -> Listing
+    requires { ⌜ Placed (now w) (now places) (wordsOf (now w)) (length (wordsOf (now w)))
+        × (from ≡ length (before (wordsOf (now w))) + 1)
+        × (count ≡ length (wordsOf (now w)))
+        × (count ≤ 10) ⌝ }
+    ensures { λ r. ⌜ r ≡ addedComponents nothingListed (map componentOf (after (wordsOf (now (w .entry))))) ⌝ }
+{
+    let mut l = Listing {
+        good: true,
+        count: 0,
+        items: [0; 5],
+    };
+    let mut i = from;
+    while i < count {
+        l = add_component(l, component_of(word(w, places, i)));
+        i += 1;
+    }
+    l
+}
