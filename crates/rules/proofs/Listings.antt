@@ -4,7 +4,7 @@ use native.Mathlib.Omega.{arith}
 use native.Mathlib.Nat.{sub-zero}
 use native.Mathlib.Numerals.{add-one}
 use mathlib.Core.Path.{_≡_, refl, sym, ap, _∙_}
-use mathlib.Core.List.{List, [], _∷_, _++_, append-assoc, append-nil}
+use mathlib.Core.List.{List, [], _∷_, _++_, append-nil}
 use mathlib.Core.Bool.{Bool, true, false, not, _||_, _&&_, cond, false≢true, and-true, and-false, and-assoc, or-comm}
 use lib.ListN.{length, take, drop, set, getD, length-append, length-set}
 use lib.Seq.{drop-cons, take-suc-set, append-snoc}

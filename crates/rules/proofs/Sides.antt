@@ -1,12 +1,12 @@
 -- The two sides of a set heading, read word by word.
-use Prim.Native.Nat.{ℕ, zero, suc, _+_, _≤_, _<_}
+use Prim.Native.Nat.{ℕ, suc, _+_, _≤_, _<_}
 use native.Mathlib.Omega.{arith}
 use native.Mathlib.Numerals.{add-one}
 use mathlib.Core.Path.{_≡_, refl, sym, ap, _∙_}
-use mathlib.Core.List.{List, [], _∷_, _++_, map}
-use mathlib.Core.Bool.{Bool, true, false, not, _||_, _&&_, cond, false≢true, and-true, and-false}
+use mathlib.Core.List.{List, [], _∷_, map}
+use mathlib.Core.Bool.{Bool, true, false, not, _&&_, cond, false≢true, and-true, and-false}
 use lib.ListN.{length, take, drop, getD, length-map, drop-of-length-le}
-use lib.Seq.{drop-cons, drop-nil, getD-take}
+use lib.Seq.{drop-cons, getD-take}
 use lib.Dec.{eqb, ltb, leb}
 use borrow.Author.Tests.{le-leb}
 use Rattle.text.specs.Bytes.{Text, Words, allOf, concatMap}
@@ -20,7 +20,7 @@ use Rattle.rules.specs.declared.Listing.{Listing}
 use Rattle.rules.specs.declared.LeftSide.{LeftSide}
 use Rattle.rules.specs.declared.SetHeading.{SetHeading}
 use Rattle.rules.specs.Words.{isEquals}
-use Rattle.rules.specs.Headings.{Heading, leftItem, componentOf, columnNumber, columnsIn, indexesIn, indexNumber, knownIndex, knownItem, distinct, alike, firstIndex, goodItems, headingOf}
+use Rattle.rules.specs.Headings.{leftItem, componentOf, columnNumber, columnsIn, indexesIn, indexNumber, knownIndex, knownItem, distinct, alike, firstIndex, goodItems, headingOf}
 use Rattle.rules.specs.Entries.{before, after}
 use Rattle.rules.specs.Sets.{nothingListed, addedAll, addedComponent, addedComponents, noItems, goodIndex, withColumn, withIndexed, withUnknown, withItem, withItems, Holds, IsSet}
 use Rattle.rules.proofs.Listings.{both, Kept, listing-all, components-known, components-unknown, few}
@@ -118,3 +118,225 @@ module _ (ws : Words) (l : Listing) (i : ℕ) (v : OnRight ws l i) where
 
   pub right-end : length ws ≤ i → l ≡ addedComponents nothingListed (map componentOf (after ws))
   right-end h = sym (v .rest ∙ rw (drop-of-length-le ws h) (components-nil l))
+
+-- the columns of left items, whether they are good, and their index
+
+pub columns-all : (s : LeftSide) (ls : List Item) → withItems s ls .columns ≡ addedAll (s .columns) (map columnNumber (concatMap columnsIn ls))
+unfolding withItems withItem withColumn withIndexed withUnknown addedAll concatMap columnsIn columnNumber
+columns-all s [] = refl
+columns-all s (item.Model ∷ ls) = columns-all (withColumn s 1) ls
+columns-all s (item.Layout i ∷ ls) = columns-all (withIndexed s 2 i) ls
+columns-all s (item.Variant i ∷ ls) = columns-all (withIndexed s 3 i) ls
+columns-all s (item.Options ∷ ls) = columns-all (withColumn s 4) ls
+columns-all s (item.Unknown ∷ ls) = columns-all (withUnknown s) ls
+
+-- the indexes are alike, and alike the first one if it was met
+alikeFrom : Bool → Index → List Index → Bool
+alikeFrom true i r = allOf (λ j. eqb (indexNumber i) (indexNumber j)) r
+alikeFrom false i r = alike r
+
+alike-nil : (t : Bool) (i : Index) → alikeFrom t i [] ≡ true
+unfolding alikeFrom allOf alike
+alike-nil true i = refl
+alike-nil false i = refl
+
+by-turns : (g k e a o : Bool) → ((g && (k && e)) && (a && o)) ≡ (g && ((k && a) && (e && o)))
+by-turns false k e a o = refl
+by-turns true false e a o = refl
+by-turns true true true a o = refl
+by-turns true true false a o = sym (and-false a)
+
+indexed-good : (s : LeftSide) (k : ℕ) (i : Index) (a : Bool) (r : List Index) →
+    (withIndexed s k i .good && (a && alikeFrom (withIndexed s k i .met) (withIndexed s k i .index) r)) ≡ (s .good && ((knownIndex i && a) && alikeFrom (s .met) (s .index) (i ∷ r)))
+unfolding withIndexed goodIndex alikeFrom allOf alike
+indexed-good s k i a r = go (s .met) refl
+  where
+    go : (t : Bool) → s .met ≡ t →
+        (withIndexed s k i .good && (a && alikeFrom true (cond (s .met) (s .index) i) r)) ≡ (s .good && ((knownIndex i && a) && alikeFrom (s .met) (s .index) (i ∷ r)))
+    go true e =
+        rw e
+        (by-turns (s .good) (knownIndex i) (eqb (indexNumber (s .index)) (indexNumber i)) a (allOf (λ j. eqb (indexNumber (s .index)) (indexNumber j)) r))
+    go false e = rw e (by-turns (s .good) (knownIndex i) true a (allOf (λ j. eqb (indexNumber i) (indexNumber j)) r))
+
+items-good : (s : LeftSide) (ls : List Item) →
+    withItems s ls .good ≡ (s .good && (allOf knownItem ls && alikeFrom (s .met) (s .index) (concatMap indexesIn ls)))
+unfolding withItems withItem withColumn withUnknown allOf knownItem concatMap indexesIn
+items-good s [] = sym (rw (alike-nil (s .met) (s .index)) (and-true (s .good)))
+items-good s (item.Model ∷ ls) = items-good (withColumn s 1) ls
+items-good s (item.Layout i ∷ ls) = items-good (withIndexed s 2 i) ls ∙ indexed-good s 2 i (allOf knownItem ls) (concatMap indexesIn ls)
+items-good s (item.Variant i ∷ ls) = items-good (withIndexed s 3 i) ls ∙ indexed-good s 3 i (allOf knownItem ls) (concatMap indexesIn ls)
+items-good s (item.Options ∷ ls) = items-good (withColumn s 4) ls
+items-good s (item.Unknown ∷ ls) = items-good (withUnknown s) ls ∙ sym (and-false (s .good))
+
+pub good-all : (ls : List Item) → withItems noItems ls .good ≡ (allOf knownItem ls && alike (concatMap indexesIn ls))
+unfolding noItems alikeFrom
+good-all ls = items-good noItems ls
+
+index-met : (s : LeftSide) (ls : List Item) → s .met ≡ true → withItems s ls .index ≡ s .index
+unfolding withItems withItem withColumn withIndexed withUnknown
+index-met s [] h = refl
+index-met s (item.Model ∷ ls) h = index-met (withColumn s 1) ls h
+index-met s (item.Layout i ∷ ls) h = index-met (withIndexed s 2 i) ls refl ∙ rw h
+index-met s (item.Variant i ∷ ls) h = index-met (withIndexed s 3 i) ls refl ∙ rw h
+index-met s (item.Options ∷ ls) h = index-met (withColumn s 4) ls h
+index-met s (item.Unknown ∷ ls) h = index-met (withUnknown s) ls h
+
+index-first : (s : LeftSide) (ls : List Item) → s .met ≡ false → s .index ≡ index.Absent → withItems s ls .index ≡ firstIndex (concatMap indexesIn ls)
+unfolding withItems withItem withColumn withIndexed withUnknown concatMap indexesIn firstIndex
+index-first s [] h e = e
+index-first s (item.Model ∷ ls) h e = index-first (withColumn s 1) ls h e
+index-first s (item.Layout i ∷ ls) h e = index-met (withIndexed s 2 i) ls refl ∙ rw h
+index-first s (item.Variant i ∷ ls) h e = index-met (withIndexed s 3 i) ls refl ∙ rw h
+index-first s (item.Options ∷ ls) h e = index-first (withColumn s 4) ls h e
+index-first s (item.Unknown ∷ ls) h e = index-first (withUnknown s) ls h e
+
+pub index-all : (ls : List Item) → withItems noItems ls .index ≡ firstIndex (concatMap indexesIn ls)
+unfolding noItems
+index-all ls = index-first noItems ls refl refl
+
+-- Distinct columns are at most four: 0 is none.
+
+all-columns : (p : ℕ → Bool) → ((c : Column) → p (columnNumber c) ≡ true) → (cs : List Column) → allOf p (map columnNumber cs) ≡ true
+unfolding allOf
+all-columns p h [] = refl
+all-columns p h (c ∷ cs) = rw (h c, all-columns p h cs)
+
+number-low : (c : Column) → ltb (columnNumber c) 5 ≡ true
+unfolding columnNumber
+number-low column.Model = refl
+number-low column.Layout = refl
+number-low column.Variant = refl
+number-low column.Options = refl
+
+number-high : (c : Column) → not (eqb 0 (columnNumber c)) ≡ true
+unfolding columnNumber
+number-high column.Model = refl
+number-high column.Layout = refl
+number-high column.Variant = refl
+number-high column.Options = refl
+
+pub few-columns : (cs : List Column) → distinct (map columnNumber cs) ≡ true → length cs ≤ 4
+unfolding distinct allOf
+few-columns cs d =
+    let h : distinct (0 ∷ map columnNumber cs) ≡ true = rw (all-columns (λ m. not (eqb 0 m)) number-high cs, d) in
+    let l : length (0 ∷ map columnNumber cs) ≤ 5 = few (0 ∷ map columnNumber cs) h (all-columns (λ c. ltb c 5) number-low cs) in
+    omega (arith, l, length-map cs columnNumber)
+
+-- a known item has one column
+known-columns : (ls : List Item) → allOf knownItem ls ≡ true → length (concatMap columnsIn ls) ≡ length ls
+unfolding allOf knownItem concatMap columnsIn
+known-columns [] h = refl
+known-columns (item.Model ∷ ls) h = ap suc (known-columns ls h)
+known-columns (item.Layout i ∷ ls) h = ap suc (known-columns ls (both (knownIndex i) (allOf knownItem ls) h .1))
+known-columns (item.Variant i ∷ ls) h = ap suc (known-columns ls (both (knownIndex i) (allOf knownItem ls) h .1))
+known-columns (item.Options ∷ ls) h = ap suc (known-columns ls h)
+known-columns (item.Unknown ∷ ls) h = absurd (false≢true h)
+
+-- what good items are
+pub record GoodParts (ls : List Item) (rs : List ℕ) : Type 0 where
+  pub items : allOf knownItem ls ≡ true
+  pub components : allOf (λ c. ltb c 5) rs ≡ true
+  pub left : distinct (map columnNumber (concatMap columnsIn ls)) ≡ true
+  pub right : distinct rs ≡ true
+
+pub good-parts : (ls : List Item) (rs : List ℕ) → goodItems ls rs ≡ true → GoodParts ls rs
+unfolding goodItems
+good-parts ls rs h =
+    let a = both (allOf knownItem ls) _ h in
+    let b = both (allOf (λ c. ltb c 5) rs) _ (a .1) in
+    let d = both (distinct (map columnNumber (concatMap columnsIn ls))) _ (b .1) in
+    let e = both (distinct rs) _ (d .1) in
+    record { items = a .0; components = b .0; left = d .0; right = e .0 }
+
+-- A set heading of more than ten words has an item unknown or repeated.
+pub too-many : (ws : Words) → 10 < length ws → goodItems (map leftItem (before ws)) (map componentOf (after ws)) ≡ false
+too-many ws h = go (goodItems (map leftItem (before ws)) (map componentOf (after ws))) refl
+  where
+    go : (t : Bool) → goodItems (map leftItem (before ws)) (map componentOf (after ws)) ≡ t → t ≡ false
+    go true e =
+        let p = good-parts (map leftItem (before ws)) (map componentOf (after ws)) e in
+        absurd (omega (
+          arith,
+          sides-high ws,
+          length-map (before ws) leftItem,
+          length-map (after ws) componentOf,
+          known-columns (map leftItem (before ws)) (p .items),
+          few-columns (concatMap columnsIn (map leftItem (before ws))) (p .left),
+          few (map componentOf (after ws)) (p .right) (p .components),
+        ))
+    go false e = refl
+
+-- the heading as it is read
+
+columns-kept : (ls : List Item) → Kept (map columnNumber (concatMap columnsIn ls)) (withItems noItems ls .columns)
+unfolding noItems
+columns-kept ls = rw (columns-all noItems ls) (listing-all (map columnNumber (concatMap columnsIn ls)))
+
+columns-good : (ls : List Item) → withItems noItems ls .columns .good ≡ distinct (map columnNumber (concatMap columnsIn ls))
+columns-good ls = columns-kept ls .good ∙ go (distinct (map columnNumber (concatMap columnsIn ls))) refl
+  where
+    go : (t : Bool) → distinct (map columnNumber (concatMap columnsIn ls)) ≡ t → (t && leb (length (map columnNumber (concatMap columnsIn ls))) 5) ≡ t
+    go true e =
+        le-leb (length (map columnNumber (concatMap columnsIn ls))) 5
+        (omega (arith, few-columns (concatMap columnsIn ls) e, length-map (concatMap columnsIn ls) columnNumber))
+    go false e = refl
+
+components-good : (rs : List ℕ) → addedComponents nothingListed rs .good ≡ (allOf (λ c. ltb c 5) rs && distinct rs)
+components-good rs = go (allOf (λ c. ltb c 5) rs) (distinct rs) refl refl
+  where
+    go : (t u : Bool) → allOf (λ c. ltb c 5) rs ≡ t → distinct rs ≡ u → addedComponents nothingListed rs .good ≡ (t && u)
+    go true true e f = rw (components-known nothingListed rs e) (listing-all rs .good ∙ rw (f, le-leb (length rs) 5 (few rs f e)))
+    go true false e f = rw (components-known nothingListed rs e) (listing-all rs .good ∙ rw f)
+    go false u e f = components-unknown nothingListed rs e
+
+in-order : (k a d b e : Bool) → ((k && a) && (d && (b && e))) ≡ (k && (b && (d && (e && a))))
+in-order false a d b e = refl
+in-order true true d true e = rw (and-true e)
+in-order true true true false e = refl
+in-order true true false false e = refl
+in-order true false d true e = sym (rw (and-false e) (and-false d))
+in-order true false d false e = refl
+
+abbrev joined : LeftSide → Listing → Bool → SetHeading
+joined l r g = record { good = g; left = l .columns .count; columns = l .columns .items; index = l .index; right = r .count; components = r .items }
+
+module _ (ls : List Item) (rs : List ℕ) (l : LeftSide) (r : Listing) (g : Bool) (p : l ≡ withItems noItems ls) (q : r ≡ addedComponents nothingListed rs) (e : g ≡ (l .good && (l .columns .good && r .good))) where
+  read-good : g ≡ goodItems ls rs
+  unfolding goodItems
+  read-good =
+      e ∙ rw (p, q, good-all ls, columns-good ls, components-good rs)
+      (in-order (allOf knownItem ls) (alike (concatMap indexesIn ls)) (distinct (map columnNumber (concatMap columnsIn ls))) (allOf (λ c. ltb c 5) rs) (distinct rs))
+
+  read-holds : g ≡ true → Holds (headingOf ls rs) (joined l r g)
+  unfolding headingOf
+  read-holds h =
+      let z = good-parts ls rs (sym read-good ∙ h) in
+      let a : Kept (map columnNumber (concatMap columnsIn ls)) (l .columns) = rw p (columns-kept ls) in
+      let b : Kept rs r = rw (q, components-known nothingListed rs (z .components)) (listing-all rs) in
+      let u = both (l .good) (l .columns .good && r .good) (sym e ∙ h) in
+      let v = both (l .columns .good) (r .good) (u .1) in
+      let n = a .count (v .0) in
+      let m = b .count (v .1) in
+      let w = length-map (concatMap columnsIn ls) columnNumber in
+      record {
+        left = n ∙ w;
+        right = m;
+        columns = sym (a .held (v .0));
+        components = sym (b .held (v .1));
+        index = rw p (index-all ls);
+        fewLeft = omega (arith, n, w, few-columns (concatMap columnsIn ls) (z .left));
+        fewRight = omega (arith, m, few rs (z .right) (z .components));
+        sizeLeft = a .size;
+        sizeRight = b .size;
+      }
+
+pub is-set : (ws : Words) (l : LeftSide) (r : Listing) (g : Bool) →
+    l ≡ withItems noItems (map leftItem (before ws)) →
+    r ≡ addedComponents nothingListed (map componentOf (after ws)) →
+    g ≡ (l .good && (l .columns .good && r .good)) →
+    IsSet ws (record { good = g; left = l .columns .count; columns = l .columns .items; index = l .index; right = r .count; components = r .items })
+is-set ws l r g p q e =
+    record {
+      good = read-good (map leftItem (before ws)) (map componentOf (after ws)) l r g p q e;
+      holds = read-holds (map leftItem (before ws)) (map componentOf (after ws)) l r g p q e;
+    }

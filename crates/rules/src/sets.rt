@@ -1,13 +1,13 @@
 // A set heading, read from the words of a split line.
 ghost use mathlib.Core.Path.{_≡_};
 ghost use mathlib.Core.List.{[], map};
-ghost use mathlib.Core.Bool.{true, _&&_};
+ghost use mathlib.Core.Bool.{_&&_};
 ghost use Prim.Native.Nat.{_+_, _<_, _≤_};
 ghost use lib.ListN.{length, take, getD};
 ghost use lib.Dec.{eqb};
 ghost use Rattle.text.specs.Bytes.{anyOf};
 ghost use Rattle.rules.specs.Headings.{leftItem, componentOf};
-ghost use Rattle.rules.specs.Entries.{before, after, setShape};
+ghost use Rattle.rules.specs.Entries.{before, after};
 ghost use Rattle.rules.specs.Splitting.{wordsOf, Placed};
 ghost use Rattle.rules.specs.Sets.{nothingListed, added, addedComponent, addedComponents, noItems, goodIndex, withColumn, withIndexed, withItem, withItems, IsSet};
 use super::Index;
@@ -186,4 +186,41 @@ fn right_side(w: &[u8], places: &[usize], from: usize, count: usize) -> Listing
         i += 1;
     }
     l
+}
+
+fn is_good(l: LeftSide, r: Listing) -> bool
+    ensures { λ g. ⌜ g ≡ (l .good && (l .columns .good && r .good)) ⌝ }
+{
+    if l.good {
+        if l.columns.good {
+            return r.good;
+        }
+        return false;
+    }
+    false
+}
+
+// The heading of a line that is split: `first` words before the first `=`, `count` in all.
+pub fn read_set(w: &[u8], places: &[usize], first: usize, count: usize) -> SetHeading
+    requires { ⌜ Placed (now w) (now places) (wordsOf (now w)) (length (wordsOf (now w)))
+        × (first ≡ length (before (wordsOf (now w))))
+        × (count ≡ length (wordsOf (now w)))
+        × (count ≤ 10) ⌝ }
+    ensures { λ r. ⌜ IsSet (wordsOf (now (w .entry))) r ⌝ }
+{
+    let l = left_side(w, places, first);
+    let r = right_side(w, places, first + 1, count);
+    let good = is_good(l, r);
+    let listed = l.columns;
+    let columns = listed.items;
+    let index = l.index;
+    let components = r.items;
+    SetHeading {
+        good,
+        left: listed.count,
+        columns,
+        index,
+        right: r.count,
+        components,
+    }
 }

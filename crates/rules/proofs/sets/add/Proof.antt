@@ -4,7 +4,6 @@ use mathlib.Core.Path.{sym, _∙_}
 use Rattle.rules.specs.Sets.{added, spoiled}
 use Rattle.rules.proofs.sets.add.Statement.{statement}
 use Rattle.rules.proofs.sets.add.Tie as tie
-use Rattle.rules.proofs.sets.is_listed.Reads as is-listed-reads
 
 returns : tie.Need-returns
 unfolding added spoiled

@@ -2,7 +2,6 @@ use borrow.Author.Needs.{needs}
 use Rattle.rules.specs.Sets.{withColumn}
 use Rattle.rules.proofs.sets.add_column.Statement.{statement}
 use Rattle.rules.proofs.sets.add_column.Tie as tie
-use Rattle.rules.proofs.sets.add.Reads as add-reads
 
 add-requires : tie.Need-add-requires
 add-requires c κs = search needs

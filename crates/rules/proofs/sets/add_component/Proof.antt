@@ -3,7 +3,6 @@ use borrow.Author.Tests.{lt-ltb, le-ltb}
 use Rattle.rules.specs.Sets.{addedComponent, spoiled}
 use Rattle.rules.proofs.sets.add_component.Statement.{statement}
 use Rattle.rules.proofs.sets.add_component.Tie as tie
-use Rattle.rules.proofs.sets.add.Reads as add-reads
 
 add-requires : tie.Need-add-requires
 add-requires c κs = search needs

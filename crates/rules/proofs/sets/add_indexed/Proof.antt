@@ -2,8 +2,6 @@ use borrow.Author.Needs.{needs}
 use Rattle.rules.specs.Sets.{withIndexed}
 use Rattle.rules.proofs.sets.add_indexed.Statement.{statement}
 use Rattle.rules.proofs.sets.add_indexed.Tie as tie
-use Rattle.rules.proofs.sets.add.Reads as add-reads
-use Rattle.rules.proofs.sets.is_good_index.Reads as is-good-index-reads
 
 is-good-index-requires : tie.Need-is-good-index-requires
 is-good-index-requires c κs = search needs

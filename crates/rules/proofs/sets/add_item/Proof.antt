@@ -1,10 +1,7 @@
 use borrow.Author.Needs.{needs}
-use mathlib.Core.Path.{sym, _∙_}
 use Rattle.rules.specs.Sets.{withItem, withUnknown}
 use Rattle.rules.proofs.sets.add_item.Statement.{statement}
 use Rattle.rules.proofs.sets.add_item.Tie as tie
-use Rattle.rules.proofs.sets.add_column.Reads as add-column-reads
-use Rattle.rules.proofs.sets.add_indexed.Reads as add-indexed-reads
 
 enum-told : tie.Need-enum-told
 enum-told c = search needs

@@ -1,11 +1,9 @@
 use borrow.Author.Needs.{needs}
 use borrow.Author.Tests.{eq-eqb, ne-eqb, not-true, not-false}
-use mathlib.Core.Path.{sym, _∙_}
 use Rattle.rules.specs.Headings.{knownIndex}
 use Rattle.rules.specs.Sets.{goodIndex}
 use Rattle.rules.proofs.sets.is_good_index.Statement.{statement}
 use Rattle.rules.proofs.sets.is_good_index.Tie as tie
-use Rattle.rules.proofs.headings.index_number.Reads as index-number-reads
 
 returns : tie.Need-returns
 unfolding goodIndex

@@ -2,7 +2,7 @@ use borrow.Author.Needs.{needs}
 use Prim.Native.Nat.{_≤_, _-_}
 use mathlib.Core.Path.{_≡_, sym, _∙_}
 use native.Mathlib.Omega.{arith}
-use lib.ListN.{take, length}
+use lib.ListN.{take}
 use lib.Dec.{eqb}
 use Rattle.text.specs.Bytes.{anyOf}
 use Rattle.rules.proofs.Listings.{listed, listed-start, listed-hit, listed-miss, listed-end}

@@ -2,16 +2,11 @@ use borrow.Author.Needs.{needs}
 use Prim.Native.Nat.{_-_}
 use native.Mathlib.Omega.{arith}
 use mathlib.Core.Path.{refl}
-use lib.ListN.{length}
-use Rattle.rules.specs.Entries.{before}
 use Rattle.rules.specs.Splitting.{wordsOf}
 use Rattle.rules.specs.Sets.{noItems, nothingListed}
 use Rattle.rules.proofs.Sides.{OnLeft, before-low, left-start, left-more, left-end}
 use Rattle.rules.proofs.sets.left_side.Statement.{statement}
 use Rattle.rules.proofs.sets.left_side.Tie as tie
-use Rattle.rules.proofs.headings.left_item.Reads as left-item-reads
-use Rattle.rules.proofs.sets.add_item.Reads as add-item-reads
-use Rattle.rules.proofs.sets.word.Reads as word-reads
 
 abbrev Inv-loop : tie.InvT-loop
 Inv-loop w places first s₀ i₀ s i = OnLeft (wordsOf w) s i

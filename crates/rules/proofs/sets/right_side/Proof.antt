@@ -2,15 +2,11 @@ use borrow.Author.Needs.{needs}
 use Prim.Native.Nat.{_-_}
 use native.Mathlib.Omega.{arith}
 use mathlib.Core.Path.{refl}
-use lib.ListN.{length}
 use Rattle.rules.specs.Splitting.{wordsOf}
 use Rattle.rules.specs.Sets.{nothingListed}
 use Rattle.rules.proofs.Sides.{OnRight, right-start, right-more, right-end}
 use Rattle.rules.proofs.sets.right_side.Statement.{statement}
 use Rattle.rules.proofs.sets.right_side.Tie as tie
-use Rattle.rules.proofs.headings.component_of.Reads as component-of-reads
-use Rattle.rules.proofs.sets.add_component.Reads as add-component-reads
-use Rattle.rules.proofs.sets.word.Reads as word-reads
 
 abbrev Inv-loop : tie.InvT-loop
 Inv-loop w places from count l₀ i₀ l i = OnRight (wordsOf w) l i
