@@ -29,9 +29,8 @@ use Rattle.rules.specs.declared.Split.{Split}
 use Rattle.rules.specs.Words.{hasDollar, isGroupName}
 use Rattle.rules.specs.Entries.{Entry, ignored, wrong, group, set, rule, entryOf}
 use Rattle.rules.specs.Splitting.{wordsOf, IsWord, IsSplit}
-use Rattle.rules.specs.Checking.{noHeading, presentFault, lineFault, presentAfter, namesAfter, checkFrom, namesFrom, IsSetLine, IsKind, namesAt, Named, Adds, Ready, leftFaults, leftNames, Onward, Steps}
+use Rattle.rules.specs.Checking.{lineOf, noHeading, presentFault, lineFault, presentAfter, namesAfter, checkFrom, namesFrom, IsSetLine, IsKind, namesAt, Named, Adds, Ready, leftFaults, leftNames, Onward, Steps}
 use Rattle.rules.proofs.Numbers.{goodEntry}
-use Rattle.rules.proofs.LineKinds.{lineOf}
 
 -- the fence in a part of the file
 pub fence-part : (s : Text) (f from : ℕ) → Fenced s f → Fenced (drop from s) (f - from)

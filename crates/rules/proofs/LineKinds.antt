@@ -19,7 +19,10 @@ use Rattle.rules.specs.Words.{isEquals, hasDollar, ordinary, isGroupName
 use Rattle.rules.specs.Headings.{leftItem, componentOf, goodItems, headingOf}
 use Rattle.rules.specs.Entries.{Entry, ignored, wrong, group, set, rule, before, after, setShape, setEntry, groupEntry, headingEntry, ruleEntry, entryOf}
 use Rattle.rules.specs.Splitting.{Tallied}
-use Rattle.rules.specs.Checking.{IsKind}
+use Rattle.rules.specs.Headings.{hasWord}
+use Rattle.rules.specs.declared.SetHeading.{SetHeading}
+use Rattle.rules.specs.Sets.{Holds, IsSet}
+use Rattle.rules.specs.Checking.{lineOf, presentOf, IsSetLine, IsKind}
 
 -- another way to write the same line
 pub kind-of : (ws : Words) (e e′ : Entry) (k : LineKind) → e ≡ e′ → IsKind ws e′ k → IsKind ws e k
@@ -171,9 +174,6 @@ unfolding ruleEntry
 some-words [] h = absurd (h refl)
 some-words (w ∷ ws) h = refl
 
-abbrev pub lineOf : ℕ → Bool → Words → Line
-lineOf n h ws = record { number = n; isHeading = h; text = ws }
-
 module _ (n : ℕ) (h : Bool) (ws : Words) where
   pub line-wrong : (f : ℕ) → f ≡ wordsFault ws → (f ≡ 0 → ⊥) → entryOf (lineOf n h ws) ≡ wrong f
   unfolding entryOf
@@ -192,3 +192,20 @@ module _ (n : ℕ) (h : Bool) (ws : Words) where
 
     pub line-rule : h ≡ false → (length ws ≡ 0 → ⊥) → entryOf (lineOf n h ws) ≡ rule ws
     line-rule k l = line-fine f e z ∙ (rw k (some-words ws l))
+
+-- the tally of a line counts no more words before the first `=` than there are
+pub first-count : (ws : Words) (t : Tally) → Tallied ws t → t .first ≤ t .count
+first-count ws t v = omega (arith, v .first, v .count, before-length ws)
+
+pub set-line : (ws : Words) (r : SetHeading) (i : Bool) → setShape ws ≡ true → IsSet ws r → r .good ≡ true → i ≡ hasWord (r .index) →
+    IsSetLine (setEntry ws) (record { begun = true; left = r .left; right = r .right; indexed = i })
+unfolding presentOf
+set-line ws r i h v g k =
+    let w = v .holds g in
+    record {
+      heading = headingOf (map leftItem (before ws)) (map componentOf (after ws));
+      is = set-good ws h (sym (v .good) ∙ g);
+      present = rw (k, w .left, w .right, w .index);
+      left = w .fewLeft;
+      right = w .fewRight;
+    }

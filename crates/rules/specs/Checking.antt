@@ -22,6 +22,9 @@ use Rattle.rules.specs.Entries.{Entry, ignored, wrong, group, set, rule,
 use Rattle.rules.specs.Faults.{shapeFault, fileRefusals}
 use Rattle.rules.specs.Names.{definesOf}
 
+abbrev pub lineOf : ℕ → Bool → Words → Line
+lineOf n h ws = record { number = n; isHeading = h; text = ws }
+
 abbrev pub noHeading : Present
 noHeading = record { begun = false; left = 0; right = 0; indexed = false }
 

@@ -8,18 +8,23 @@ ghost use Rattle.text.specs.Bytes.{allOf, anyOf};
 ghost use Rattle.rules.specs.Words.{leftWord, ordinary};
 ghost use Rattle.rules.specs.Percent.{malformed};
 ghost use Rattle.rules.specs.Faults.{shapeFault};
-ghost use Rattle.rules.specs.Entries.{groupEntry};
-ghost use Rattle.rules.specs.Checking.{presentFault, IsKind};
-ghost use Rattle.rules.specs.Splitting.{wordsOf, Placed, Tallied};
+ghost use Rattle.rules.specs.Entries.{groupEntry, setEntry, headingEntry, entryOf};
+ghost use Rattle.rules.specs.Checking.{presentFault, IsKind, lineOf};
+ghost use Rattle.rules.specs.Splitting.{wordsOf, Placed, Tallied, IsSplit};
 use super::LineKind;
 use super::Present;
+use super::Split;
 use super::Tally;
+use super::headings::has_word;
 use super::percent::is_malformed;
+use super::sets::read_set;
 use super::sets::word;
+use super::words::has_dollar;
 use super::words::is_equals;
 use super::words::is_group_name;
 use super::words::is_left_word;
 use super::words::is_ordinary;
+use text::compare::same;
 
 // The first n words may stand on a rule's left side.
 fn left_words(w: &[u8], places: &[usize], n: usize) -> bool
@@ -111,4 +116,72 @@ fn group_kind(w: &[u8], places: &[usize], t: Tally) -> LineKind
         return LineKind::Wrong(6);
     }
     LineKind::Group
+}
+
+// Any other heading: a set's, or 6 or 7.
+fn set_kind(w: &[u8], places: &[usize], t: Tally) -> LineKind
+    requires { ⌜ Placed (now w) (now places) (wordsOf (now w)) (length (wordsOf (now w))) × Tallied (wordsOf (now w)) t ⌝ }
+    ensures { λ r. ⌜ IsKind (wordsOf (now (w .entry))) (setEntry (wordsOf (now (w .entry)))) r ⌝ }
+{
+    if t.first == 0 {
+        return LineKind::Wrong(6);
+    }
+    if t.count - t.first < 2 {
+        return LineKind::Wrong(6);
+    }
+    if t.again {
+        return LineKind::Wrong(6);
+    }
+    if 10 < t.count {
+        return LineKind::Wrong(7);
+    }
+    let h = read_set(w, places, t.first, t.count);
+    if !h.good {
+        return LineKind::Wrong(7);
+    }
+    let index = h.index;
+    let indexed = has_word(index);
+    LineKind::Set(Present {
+        begun: true,
+        left: h.left,
+        right: h.right,
+        indexed,
+    })
+}
+
+// A heading by its first word.
+fn heading_kind(w: &[u8], places: &[usize], t: Tally) -> LineKind
+    requires { ⌜ Placed (now w) (now places) (wordsOf (now w)) (length (wordsOf (now w))) × Tallied (wordsOf (now w)) t ⌝ }
+    ensures { λ r. ⌜ IsKind (wordsOf (now (w .entry))) (headingEntry (wordsOf (now (w .entry)))) r ⌝ }
+{
+    if t.count == 0 {
+        return LineKind::Wrong(6);
+    }
+    let first = word(w, places, 0);
+    if has_dollar(first) {
+        return group_kind(w, places, t);
+    }
+    if same(first, b"include") {
+        return LineKind::Wrong(9);
+    }
+    set_kind(w, places, t)
+}
+
+// A line by itself: its lowest refusal, or what it is.
+pub fn line_kind(heading: bool, w: &[u8], places: &[usize], l: Split) -> LineKind
+    requires { ⌜ IsSplit (now w) (now places) l ⌝ }
+    ensures { λ r. ⌜ IsKind (wordsOf (now (w .entry))) (entryOf (lineOf 0 heading (wordsOf (now (w .entry))))) r ⌝ }
+{
+    let f = l.fault;
+    if f != 0 {
+        return LineKind::Wrong(f);
+    }
+    if heading {
+        return heading_kind(w, places, l.tally);
+    }
+    let t = l.tally;
+    if t.count == 0 {
+        return LineKind::Ignored;
+    }
+    LineKind::Rule
 }

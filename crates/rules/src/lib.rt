@@ -110,6 +110,8 @@ pub struct Progress {
 pub struct Checked {
     pub refusal: text::Refusal,
     pub groups: usize,
+}
+
 // Numbers kept in order; `good` as long as none is repeated and there are at most five.
 pub struct Listing {
     pub good: bool,
