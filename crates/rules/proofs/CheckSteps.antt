@@ -30,7 +30,7 @@ use Rattle.rules.specs.Words.{hasDollar, isGroupName}
 use Rattle.rules.specs.Entries.{Entry, ignored, wrong, group, set, rule, entryOf}
 use Rattle.rules.specs.Splitting.{wordsOf, IsWord, IsSplit}
 use Rattle.rules.specs.Checking.{lineOf, noHeading, presentFault, lineFault, presentAfter, namesAfter, checkFrom, namesFrom, IsSetLine, IsKind, namesAt, Named, Adds, Ready, leftFaults, leftNames, Onward, Steps}
-use Rattle.rules.proofs.Numbers.{goodEntry}
+use Rattle.rules.proofs.Numbers.{goodEntry, entry-good}
 
 -- the fence in a part of the file
 pub fence-part : (s : Text) (f from : ℕ) → Fenced s f → Fenced (drop from s) (f - from)
@@ -44,6 +44,9 @@ fence-part s f from v =
           let e : from + (f - from - 2) ≡ f - 2 = omega arith in
           v .free (omega arith) (rw e at (sym (getD-drop from s (f - from - 2) 0) ∙ q));
     }
+
+pub fence-tail : (s : Text) (f from n : ℕ) → Fenced s f → n ≡ f - from → (x : Text) → x ≡ drop from s → Fenced x n
+fence-tail s f from n v e x xe = rw (xe, e) (fence-part s f from v)
 
 -- the line that is read, and the lines after it
 module _ (s t : Text) (at n : ℕ) (h : Bool) (from m : ℕ) (r : Split) (lt : at < length s) (o : Opens s at n h from m) (v : IsSplit (drop from s) t r) where
@@ -208,13 +211,13 @@ module _ (s t : Text) (p : Progress) (a l : ℕ) (w : Ready s t p) (e : Entry) w
         right = λ z. w .right;
       })
 
-  pub carries-group : (t′ g : Text) (ms : Words) (x y f : ℕ) → e ≡ group g ms → g ≡ part s x y → length t′ ≡ 128 → Adds s t t′ (p .groups) x y f →
+  pub carries-group : (t′ g : Text) (ms : Words) (x y f : ℕ) → e ≡ group g ms → g ≡ part s x y → Adds s t t′ (p .groups) x y f →
       Carries s t t′ p (record { at = a; line = l; groups = p .groups + 1; present = noHeading; fault = f }) e
   unfolding lineFault namesAfter presentAfter
-  carries-group t′ g ms x y f h k z v =
+  carries-group t′ g ms x y f h k v =
       rw (h, k)
       (record {
-        size = z;
+        size = v .size;
         fault = v .fault;
         named = v .named;
         names = v .names;
@@ -250,3 +253,78 @@ module _ (s : Text) (from x y : ℕ) (g : Text) (le : from ≤ length s) (v : Is
   name-text =
       let e : g ≡ part s (from + x) (from + y) = sym (v .text) ∙ part-of-part s from x y in
       ap rest (e ∙ part-cons s (from + x) (from + y) (omega (arith, long-name)) name-high) ∙ rest-cons (getD s (from + x) 0) (part s (from + x + 1) (from + y))
+
+-- a line that was opened, split and told apart
+
+entry-any : (n : ℕ) (h : Bool) (ws : Words) → entryOf (lineOf n h ws) ≡ entryOf (lineOf 0 h ws)
+unfolding entryOf
+entry-any n h ws = refl
+
+module _ (s t u : Text) (p : Progress) (h : Bool) (from m : ℕ) (x : Text) (r : Split) (xe : x ≡ drop from s)
+    (lt : p .at < length s) (o : Opens s (p .at) (p .line) h from m) (v₀ : IsSplit x u r) (w : Ready s t p) where
+  v : IsSplit (drop from s) u r
+  v = rw xe at v₀
+
+  step-by : (t′ : Text) (q : Progress) → q .at ≡ from + r .next → q .line ≡ m + r .line →
+      Carries s t t′ p q (entryOf (lineOf (p .line) h (wordsOf (drop from s)))) → Steps s t t′ p q
+  step-by t′ q a b c =
+      carried s t t′ p q (wordsOf (drop from s)) h
+      (rw (a, b) (line-read s u (p .at) (p .line) h from m r lt o v))
+      c
+      (rw a (line-on s u (p .at) (p .line) h from m r lt o v))
+      (rw a (line-high s u (p .at) (p .line) h from m r lt o v))
+      (rw (a, b) (line-few s u (p .at) (p .line) h from m r lt o v))
+
+  module _ (k : LineKind) (i₀ : IsKind (wordsOf x) (entryOf (lineOf 0 h (wordsOf x))) k) where
+    i : IsKind (wordsOf (drop from s)) (entryOf (lineOf 0 h (wordsOf (drop from s)))) k
+    i = rw xe at i₀
+
+    pub step-ignored : k ≡ kind.Ignored → Steps s t t p (record { at = from + r .next; line = m + r .line; groups = p .groups; present = p .present; fault = 0 })
+    unfolding IsKind
+    step-ignored e =
+        step-by t _ refl refl
+        (carries-ignored s t p _ _ w _ (entry-any (p .line) h (wordsOf (drop from s)) ∙ (rw e at i)))
+
+    pub step-wrong : (n : ℕ) → k ≡ kind.Wrong n → Steps s t t p (record { at = from + r .next; line = m + r .line; groups = p .groups; present = p .present; fault = n })
+    unfolding IsKind
+    step-wrong n e =
+        step-by t _ refl refl
+        (carries-wrong s t p _ _ w _ n (entry-good (lineOf (p .line) h (wordsOf (drop from s)))) (entry-any (p .line) h (wordsOf (drop from s)) ∙ (rw e at i)))
+
+    pub step-set : (q : Present) → k ≡ kind.Set q → Steps s t t p (record { at = from + r .next; line = m + r .line; groups = p .groups; present = q; fault = 0 })
+    unfolding IsKind
+    step-set q e =
+        step-by t _ refl refl
+        (carries-set s t p _ _ w _ q (rw (entry-any (p .line) h (wordsOf (drop from s))) (rw e at i)))
+
+    pub step-rule : (f : ℕ) → k ≡ kind.Rule → f ≡ presentFault (p .present) (wordsOf x) →
+        Steps s t t p (record { at = from + r .next; line = m + r .line; groups = p .groups; present = p .present; fault = f })
+    unfolding IsKind
+    step-rule f e g =
+        step-by t _ refl refl
+        (carries-rule s t p _ _ w _ (wordsOf (drop from s)) f (entry-any (p .line) h (wordsOf (drop from s)) ∙ (rw e at i)) (rw xe at g))
+
+    module _ (e : k ≡ kind.Group) where
+      group-is : (entryOf (lineOf 0 h (wordsOf (drop from s))) ≡ group (rest (getD (wordsOf (drop from s)) 0 [])) (drop 2 (wordsOf (drop from s)))) ×
+          (2 ≤ length (wordsOf (drop from s))) × (isGroupName (getD (wordsOf (drop from s)) 0 []) ≡ true)
+      unfolding IsKind
+      group-is = rw e at i
+
+      -- where the name stands
+      pub group-word : IsWord (drop from s) (getD u 0 0) (getD u 1 0) (getD (wordsOf (drop from s)) 0 [])
+      group-word = v .placed .word 0 (omega arith) (omega (arith, group-is .1))
+
+      pub group-low : from + getD u 0 0 + 1 ≤ from + getD u 1 0
+      group-low = name-low s from _ _ _ (o .high) group-word (group-is .2)
+
+      pub group-high : from + getD u 1 0 ≤ length s
+      group-high = name-high s from _ _ _ (o .high) group-word (group-is .2)
+
+      pub step-group : (t′ : Text) (f : ℕ) → Adds s t t′ (p .groups) (from + getD u 0 0 + 1) (from + getD u 1 0) f →
+          Steps s t t′ p (record { at = from + r .next; line = m + r .line; groups = p .groups + 1; present = noHeading; fault = f })
+      step-group t′ f a =
+          step-by t′ _ refl refl
+          (carries-group s t p _ _ w _ t′ (rest (getD (wordsOf (drop from s)) 0 [])) (drop 2 (wordsOf (drop from s))) _ _ f
+          (entry-any (p .line) h (wordsOf (drop from s)) ∙ group-is .0)
+          (name-text s from _ _ _ (o .high) group-word (group-is .2))
+          a)

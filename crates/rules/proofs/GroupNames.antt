@@ -87,6 +87,7 @@ module _ (s t : Text) (n a e : ℕ) (v : Named s t n) where
   pub adds-named : anyOf (same (part s a e)) (namesAt s t n) ≡ true → Adds s t t n a e 10
   adds-named h =
       record {
+        size = v .size;
         fault = rw h;
         named = λ (z : _≡_ {A = ℕ} 10 0). absurd (omega arith);
         names = λ (z : _≡_ {A = ℕ} 10 0). absurd (omega arith);
@@ -95,6 +96,7 @@ module _ (s t : Text) (n a e : ℕ) (v : Named s t n) where
   pub adds-many : anyOf (same (part s a e)) (namesAt s t n) ≡ false → mostGroups ≤ n → Adds s t t n a e 10
   adds-many h k =
       record {
+        size = v .size;
         fault = rw (h, names-length s t n, le-leb mostGroups n k);
         named = λ (z : _≡_ {A = ℕ} 10 0). absurd (omega arith);
         names = λ (z : _≡_ {A = ℕ} 10 0). absurd (omega arith);
@@ -105,6 +107,7 @@ module _ (s t : Text) (n a e : ℕ) (v : Named s t n) where
   unfolding withPair
   adds-one h l x y =
       record {
+        size = pair-length t n a e ∙ v .size;
         fault = rw (h, names-length s t n, lt-leb mostGroups n l);
         named = λ z. named-put s t n a e v l x y;
         names = λ z. name-put s t n a e v l;

@@ -96,6 +96,7 @@ pub record Named (s t : Text) (n : ℕ) : Type 0 where
 
 -- one group more, with the name from a to e: its refusal, 10 or 0, and the table after it
 pub record Adds (s t t′ : Text) (n a e r : ℕ) : Type 0 where
+  pub size : length t′ ≡ 128
   pub fault : r ≡ cond (anyOf (same (part s a e)) (namesAt s t n) || leb mostGroups (length (namesAt s t n))) 10 0
   pub named : r ≡ 0 → Named s t′ (n + 1)
   pub names : r ≡ 0 → namesAt s t′ (n + 1) ≡ part s a e ∷ namesAt s t n

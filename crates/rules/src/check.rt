@@ -5,11 +5,20 @@ ghost use Prim.Native.Nat.{_≤_, _<_, _+_, _-_};
 ghost use lib.Dec.{leb};
 ghost use lib.ListN.{length};
 ghost use Rattle.text.specs.Bytes.{same as sameText, anyOf, part};
-ghost use Rattle.rules.specs.Checking.{namesAt, Named, Adds};
+ghost use Rattle.text.specs.Reading.{Table, Fenced};
+ghost use Rattle.rules.specs.Splitting.{wordsOf, IsSplit};
+ghost use Rattle.rules.specs.Checking.{namesAt, Named, Adds, Ready, Steps};
+use super::LineKind;
+use super::Present;
+use super::Progress;
+use super::judge::line_kind;
+use super::judge::rule_fault;
+use super::lines::split_line;
 use text::compare::same;
+use text::reader::open_line;
 
 // Whether one of the groups so far has the name.
-fn is_named(s: &[u8], names: &[usize], groups: usize, name: &[u8]) -> bool
+fn is_named(s: &[u8], names: &[usize; 128], groups: usize, name: &[u8]) -> bool
     requires { ⌜ Named (now s) (now names) groups ⌝ }
     ensures { λ r. ⌜ r ≡ anyOf (sameText (now (name .entry))) (namesAt (now (s .entry)) (now (names .entry)) groups) ⌝ }
 {
@@ -26,7 +35,7 @@ fn is_named(s: &[u8], names: &[usize], groups: usize, name: &[u8]) -> bool
 }
 
 // One group more, with the name from `start` to `end`: refusal 10, or 0 and its place is kept.
-fn add_group(s: &[u8], names: &mut [usize], groups: usize, start: usize, end: usize) -> usize
+fn add_group(s: &[u8], names: &mut [usize; 128], groups: usize, start: usize, end: usize) -> usize
     requires { ⌜ Named (now s) (now names) groups × (start ≤ end) × (end ≤ length (now s)) ⌝ }
     ensures { λ r. ⌜ Adds (now (s .entry)) (now (names .entry)) (now (names .exit)) groups start end r ⌝ }
 {
@@ -39,4 +48,86 @@ fn add_group(s: &[u8], names: &mut [usize], groups: usize, start: usize, end: us
     names[2 * groups] = start;
     names[2 * groups + 1] = end;
     0
+}
+
+// Where the fence stands in the part of the file from `from` on.
+fn fence_behind(fence: usize, from: usize) -> usize
+    ensures { λ r. ⌜ r ≡ fence - from ⌝ }
+{
+    if fence < from {
+        return 0;
+    }
+    fence - from
+}
+
+// One line: its refusal, or what is carried on to the next line.
+fn check_line(
+    s: &[u8],
+    t: &[u8; 512],
+    fence: usize,
+    places: &mut [usize],
+    names: &mut [usize; 128],
+    p: Progress,
+) -> Progress
+    requires { ⌜ Table (now t) × Fenced (now s) fence × (length (now places) ≡ 20) × Ready (now s) (now names) p × (p .at < length (now s)) ⌝ }
+    ensures { λ r. ⌜ Steps (now (s .entry)) (now (names .entry)) (now (names .exit)) p r × (length (now (places .exit)) ≡ 20) ⌝ }
+{
+    let start = p.at;
+    let o = open_line(s, t, start, p.line);
+    let from = o.at;
+    let w = &s[from..];
+    let l = split_line(w, t, fence_behind(fence, from), places);
+    let at = from + l.next;
+    let line = o.line + l.line;
+    let present = p.present;
+    match line_kind(o.heading, w, places, l) {
+        LineKind::Ignored => Progress {
+            at,
+            line,
+            groups: p.groups,
+            present,
+            fault: 0,
+        },
+        LineKind::Wrong(k) => Progress {
+            at,
+            line,
+            groups: p.groups,
+            present,
+            fault: k,
+        },
+        LineKind::Group => {
+            let name = from + places[0] + 1;
+            let end = from + places[1];
+            let fault = add_group(s, names, p.groups, name, end);
+            Progress {
+                at,
+                line,
+                groups: p.groups + 1,
+                present: Present {
+                    begun: false,
+                    left: 0,
+                    right: 0,
+                    indexed: false,
+                },
+                fault,
+            }
+        }
+        LineKind::Set(heading) => Progress {
+            at,
+            line,
+            groups: p.groups,
+            present: heading,
+            fault: 0,
+        },
+        LineKind::Rule => {
+            let fault = rule_fault(w, places, l.tally.count, present);
+            Progress {
+                at,
+                line,
+                groups: p.groups,
+                present,
+                fault,
+            }
+        }
+    }
 }

@@ -26,8 +26,8 @@ mul-start c = search needs
 mul-start-2 : tie.Need-mul-start-2 Inv-loop μ-loop
 mul-start-2 c = search needs
 
-shared-slice-read-start : tie.Need-shared-slice-read-start Inv-loop μ-loop
-shared-slice-read-start c = search needs
+element-copy-out-start : tie.Need-element-copy-out-start Inv-loop μ-loop
+element-copy-out-start c = search needs
 
 mul-end : tie.Need-mul-end Inv-loop μ-loop
 mul-end c = search needs
@@ -38,17 +38,17 @@ add-end c = search needs
 mul-end-2 : tie.Need-mul-end-2 Inv-loop μ-loop
 mul-end-2 c = search needs
 
-shared-slice-read-end : tie.Need-shared-slice-read-end Inv-loop μ-loop
-shared-slice-read-end c = search needs
+element-copy-out-end : tie.Need-element-copy-out-end Inv-loop μ-loop
+element-copy-out-end c = search needs
 
 sub-same : tie.Need-sub-same Inv-loop μ-loop
-sub-same c = c .before .before .before .before .before .before .before .pre .within (c .before .before .before .loop .k - 1) (omega arith) .0
+sub-same c = c .before .before .before .before .before .before .pre .within (c .before .before .before .loop .k - 1) (omega arith) .0
 
 part-same-start : tie.Need-part-same-start Inv-loop μ-loop
-part-same-start c = c .before .before .before .before .before .before .before .pre .within (c .before .before .before .loop .k - 1) (omega arith) .0
+part-same-start c = c .before .before .before .before .before .before .pre .within (c .before .before .before .loop .k - 1) (omega arith) .0
 
 part-same-end : tie.Need-part-same-end Inv-loop μ-loop
-part-same-end c = c .before .before .before .before .before .before .before .pre .within (c .before .before .before .loop .k - 1) (omega arith) .1
+part-same-end c = c .before .before .before .before .before .before .pre .within (c .before .before .before .loop .k - 1) (omega arith) .1
 
 same-requires : tie.Need-same-requires Inv-loop μ-loop
 same-requires c κs = search needs
@@ -77,11 +77,11 @@ is-named-spec =
     sub-k
     mul-start
     mul-start-2
-    shared-slice-read-start
+    element-copy-out-start
     mul-end
     add-end
     mul-end-2
-    shared-slice-read-end
+    element-copy-out-end
     sub-same
     part-same-start
     part-same-end
