@@ -15,3 +15,4 @@ pub mod LineKinds
 pub mod CheckSteps
 pub mod Listings
 pub mod Sides
+pub mod FileChecks

@@ -7,15 +7,19 @@ ghost use lib.ListN.{length};
 ghost use Rattle.text.specs.Bytes.{same as sameText, anyOf, part};
 ghost use Rattle.text.specs.Reading.{Table, Fenced};
 ghost use Rattle.rules.specs.Splitting.{wordsOf, IsSplit};
-ghost use Rattle.rules.specs.Checking.{namesAt, Named, Adds, Ready, Steps};
+ghost use Rattle.rules.specs.Checking.{namesAt, Named, Adds, Ready, Steps, Checks};
+use super::Checked;
 use super::LineKind;
 use super::Present;
 use super::Progress;
 use super::judge::line_kind;
 use super::judge::rule_fault;
 use super::lines::split_line;
+use text::Refusal;
 use text::compare::same;
+use text::reader::fence_of;
 use text::reader::open_line;
+use text::table::TABLE;
 
 // Whether one of the groups so far has the name.
 fn is_named(s: &[u8], names: &[usize; 128], groups: usize, name: &[u8]) -> bool
@@ -129,5 +133,56 @@ fn check_line(
                 fault,
             }
         }
+    }
+}
+
+// The first refusal of a file, 3 to 10, or number 0 and where the names of its groups stand.
+pub fn check_file(s: &[u8], names: &mut [usize; 128]) -> Checked
+    ensures { λ r. ⌜ Checks (now (s .entry)) (now (names .exit)) r ⌝ }
+{
+    *names = [0; 128];
+    if 65536 < s.len() {
+        return Checked {
+            refusal: Refusal {
+                number: 3,
+                place: 0,
+            },
+            groups: 0,
+        };
+    }
+    let t = TABLE;
+    let fence = fence_of(s);
+    let mut places: [usize; 20] = [0; 20];
+    let mut p = Progress {
+        at: 0,
+        line: 1,
+        groups: 0,
+        present: Present {
+            begun: false,
+            left: 0,
+            right: 0,
+            indexed: false,
+        },
+        fault: 0,
+    };
+    while p.at < s.len() {
+        let q = check_line(s, &t, fence, &mut places, names, p);
+        if q.fault != 0 {
+            return Checked {
+                refusal: Refusal {
+                    number: q.fault,
+                    place: p.line,
+                },
+                groups: 0,
+            };
+        }
+        p = q;
+    }
+    Checked {
+        refusal: Refusal {
+            number: 0,
+            place: 0,
+        },
+        groups: p.groups,
     }
 }
