@@ -4,3 +4,4 @@ pub mod Splitting
 pub mod Checking
 pub mod Listing
 pub mod Refused
+pub mod Counts
