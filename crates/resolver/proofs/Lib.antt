@@ -3,3 +3,5 @@ pub mod Layouts
 pub mod Firings
 pub mod Joined
 pub mod Answers
+pub mod Stretch
+pub mod Accepted
