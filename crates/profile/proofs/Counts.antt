@@ -33,7 +33,7 @@ unfolding layoutCount profileOf
 some-layout t = some-field (t .layouts)
 
 -- a test that refuses nothing
-untested : (a b n p : ℕ) → refusedIf (ltb a b) n p ≡ [] → b ≤ a
+pub untested : (a b n p : ℕ) → refusedIf (ltb a b) n p ≡ [] → b ≤ a
 unfolding refusedIf
 untested a b n p h = go (ltb a b) refl h
   where

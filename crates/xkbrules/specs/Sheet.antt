@@ -3,7 +3,7 @@ use Prim.Native.Nat.{ℕ, zero, suc, _+_, _*_, _/_, _%_, _^_}
 use mathlib.Core.List.{List, [], _∷_, _++_, map}
 use mathlib.Core.Bool.{Bool, _||_, cond}
 use lib.ListN.{length, getD, drop}
-use lib.Dec.{ltb}
+use lib.Dec.{leb, ltb}
 use Rattle.text.specs.declared.Refusal.{Refusal}
 use Rattle.text.specs.Bytes.{Text, concatMap}
 use Rattle.text.specs.Refusals.{refusedIf}
@@ -44,8 +44,9 @@ numbersFrom s i (suc n) = numberAt s i ∷ numbersFrom s (i + 4) n
 unfoldable pub lengthsIn : Text → List ℕ
 lengthsIn s = numbersFrom s 0 10
 
--- 0 for a component number over 4, a sheet under 40 bytes, or lengths whose sum is over that of the texts
+-- 0 for a component number over 4, a sheet under 40 bytes, or lengths whose sum is over that of the texts. 0 also where that sum is 2^32 or more, so that
+-- start and length each fit 32 bits: no answer has such lengths.
 unfoldable pub componentCode : ℕ → Text → ℕ → ℕ
 componentCode room s c =
-    cond (ltb 4 c || (ltb (length s) sheetLength || ltb room (sum (lengthsIn s)))) 0
+    cond (ltb 4 c || (ltb (length s) sheetLength || (ltb room (sum (lengthsIn s)) || leb (2 ^ 32) (sum (lengthsIn s))))) 0
     (stretchStart (lengthsIn s) c * 2 ^ 32 + stretchLength (lengthsIn s) c)
