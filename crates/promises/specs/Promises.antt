@@ -1,67 +1,152 @@
 -- What is promised of every resolve, over the definitions of document 01. Each proof cites a law.
-use Prim.Native.Nat.{ℕ, _+_, _≤_}
+-- `answer` is the answer of a resolve; `entryAnswer` is that of the entry for C, which is lent a sheet for the lengths besides.
+use Prim.Native.Nat.{ℕ, _+_, _*_, _^_, _≤_, _<_}
 use mathlib.Core.Path.{_≡_, refl, ap}
 use mathlib.Core.List.{List, [], _++_}
 use mathlib.Core.Bool.{true}
-use lib.ListN.{length}
+use lib.ListN.{length, drop, getD, replicate}
 use Rattle.text.specs.declared.Refusal.{Refusal}
-use Rattle.text.specs.Limits.{longestFile, longestTotal, mostGroups}
+use Rattle.text.specs.Limits.{longestFile, longestTotal, mostGroups, mostLayouts, mostOptions}
 use Rattle.text.specs.Bytes.{Text, apart}
 use Rattle.text.specs.Lines.{closed}
-use Rattle.profile.specs.Profile.{Texts, profileOf}
+use Rattle.profile.specs.Profile.{Texts, profileOf, layoutCount, optionsOf}
 use Rattle.profile.specs.Options.{Alike, Within, withOptions}
+use Rattle.profile.proofs.Counts as counted
 use Rattle.rules.specs.Names.{definesOf, namesOf}
 use Rattle.resolver.specs.Firings.{fileFirings}
 use Rattle.resolver.specs.Components.{valuesOf, base, additions, updates}
-use Rattle.resolver.specs.Answer.{Answer, refused, accepted, answer, total, bufferAfter, Answered}
+use Rattle.resolver.specs.Answer.{Answer, refused, accepted, answer, sum, total, numberOf, placeOf, lengthsOf, bufferAfter, stretchStart, stretchLength, stretch, Answered}
 use Rattle.resolver.specs.Joined.{together}
 use Rattle.resolver.proofs.Updates.{stepwise}
 use Rattle.resolver.proofs.Firings.{file-values}
+use Rattle.resolver.proofs.Accepted as fits
 use Rattle.resolver.proofs.Answers as laws
-use Rattle.xkbrules.specs.Sheet.{entryAnswer, sheetAfter}
+use Rattle.resolver.proofs.Stretch as parts
+use Rattle.xkbrules.specs.Sheet.{sheetLength, entryAnswer, sheetAfter, lengthsIn, componentCode}
+use Rattle.xkbrules.proofs.Sheet as sheets
+use Rattle.xkbrules.proofs.Entry as entry
 
--- "Every file and every profile gets an answer": ten texts that fit the buffer, or a refusal with a number from 1 to 11.
+-- Demand 1: "Every file and every profile gets an answer": ten texts that fit the buffer, or a refusal with a number from 1 to 11.
 pub answered : (room : ℕ) (f : Text) (t : Texts) → Answered room (answer room f t)
 answered = laws.answered
 
--- "and the buffer then holds just what it held before"
+-- The same for C, with a sheet of any length.
+pub entry-answered : (room sheet : ℕ) (f : Text) (t : Texts) → Answered room (entryAnswer room sheet f t)
+entry-answered = entry.entry-answered
+
+-- Demand 1, of a refusal: "and the buffer then holds just what it held before".
 pub buffer-kept : (d f : Text) (t : Texts) (r : Refusal) → answer (length d) f t ≡ refused r → bufferAfter d (answer (length d) f t) ≡ d
 unfolding bufferAfter
 buffer-kept d f t r h = rw h
 
 -- "A refusal has ten zero lengths; buffer and length sheet stay untouched.", also where the sheet itself is too short
 pub sheet-kept : (d s f : Text) (t : Texts) (r : Refusal) → entryAnswer (length d) (length s) f t ≡ refused r →
-    (bufferAfter d (entryAnswer (length d) (length s) f t) ≡ d) × (sheetAfter s (entryAnswer (length d) (length s) f t) ≡ s)
-unfolding bufferAfter sheetAfter
-sheet-kept d s f t r h = (rw h, rw h)
+    (lengthsOf (entryAnswer (length d) (length s) f t) ≡ replicate 10 0) ×
+    (bufferAfter d (entryAnswer (length d) (length s) f t) ≡ d) ×
+    (sheetAfter s (entryAnswer (length d) (length s) f t) ≡ s)
+unfolding lengthsOf bufferAfter sheetAfter
+sheet-kept d s f t r h = (rw h, rw h, rw h)
+
+-- "An empty layouts text is one empty layout, so the layout count n is 1 to 4.": at least 1 for all texts,
+pub some-layout : (t : Texts) → 1 ≤ layoutCount (profileOf t)
+some-layout = counted.some-layout
+
+-- and for an accepted answer at most 4, with no more variants than layouts; and "at most 64 options remain".
+pub counts : (room : ℕ) (f : Text) (t : Texts) (ts : List Text) → answer room f t ≡ accepted ts →
+    (layoutCount (profileOf t) ≤ mostLayouts) ×
+    (length (profileOf t .variants) ≤ layoutCount (profileOf t)) ×
+    (length (optionsOf (t .options)) ≤ mostOptions)
+counts room f t ts h = (fits.few-layouts room f t ts h, fits.few-variants room f t ts h, fits.few-options room f t ts h)
 
 -- 001's stepwise update "equals: the first plain value (the base), then all additions in firing order", for each component c of every file and profile
 pub update-stepwise : (f : Text) (t : Texts) (c : ℕ) →
     updates [] (valuesOf c (fileFirings f (profileOf t))) ≡ base (valuesOf c (fileFirings f (profileOf t))) ++ additions (valuesOf c (fileFirings f (profileOf t)))
 update-stepwise f t c = stepwise (valuesOf c (fileFirings f (profileOf t))) (file-values f (profileOf t) c)
 
+-- "A caller may ask for one component and gets back that stretch of its own buffer, base and additions together":
+pub component : (d f : Text) (t : Texts) (ts : List Text) (c : ℕ) → answer (length d) f t ≡ accepted ts → c ≤ 4 →
+    stretch (bufferAfter d (accepted ts)) (lengthsOf (accepted ts)) c ≡ getD ts (2 * c) [] ++ getD ts (2 * c + 1) []
+component d f t ts c h = parts.stretch-texts d ts c
+
+-- "a component number over 4,
+pub component-number : (d : Text) (ns : List ℕ) (c : ℕ) → 4 < c → stretch d ns c ≡ []
+component-number = parts.stretch-number
+
+-- or ten lengths whose sum is over the buffer's, get the empty stretch."
+pub component-lengths : (d : Text) (ns : List ℕ) (c : ℕ) → length d < sum ns → stretch d ns c ≡ []
+component-lengths = parts.stretch-lengths
+
+-- The answer for C is that of the resolve where the sheet has 40 bytes or more. Where it is shorter, a refusal is the same,
+pub entry-same : (room sheet : ℕ) (f : Text) (t : Texts) → sheetLength ≤ sheet → entryAnswer room sheet f t ≡ answer room f t
+entry-same = entry.entry-same
+
+pub entry-refused : (room sheet : ℕ) (f : Text) (t : Texts) (r : Refusal) → answer room f t ≡ refused r → entryAnswer room sheet f t ≡ refused r
+entry-refused = entry.entry-refused
+
+-- and "a C length sheet under 40 bytes" is 11 at 0 where the resolve is accepted: "last 11".
+pub entry-short : (room sheet : ℕ) (f : Text) (t : Texts) (ts : List Text) → sheet < sheetLength → answer room f t ≡ accepted ts →
+    (numberOf (entryAnswer room sheet f t) ≡ 11) × (placeOf (entryAnswer room sheet f t) ≡ 0)
+unfolding numberOf placeOf
+entry-short room sheet f t ts s h = let e = entry.entry-short room sheet f t ts s h in (ap numberOf e, ap placeOf e)
+
+-- "the ten lengths are written as little-endian 32-bit numbers into the first 40 bytes of a lent sheet, whose later bytes are untouched": the sheet is
+-- as long as before, its first 40 bytes hold the ten lengths, and the others are as before.
+pub sheet-written : (room : ℕ) (s f : Text) (t : Texts) (ts : List Text) → entryAnswer room (length s) f t ≡ accepted ts →
+    (lengthsIn (sheetAfter s (accepted ts)) ≡ lengthsOf (accepted ts)) ×
+    (drop sheetLength (sheetAfter s (accepted ts)) ≡ drop sheetLength s) ×
+    (length (sheetAfter s (accepted ts)) ≡ length s)
+sheet-written room s f t ts h = (entry.entry-lengths room s f t ts h, entry.entry-later room s f t ts h, entry.entry-size room s f t ts h)
+
+-- With such a sheet C is told where each component stands: its start times 2^32 plus its length.
+pub component-code : (room : ℕ) (s f : Text) (t : Texts) (ts : List Text) (c : ℕ) → entryAnswer room (length s) f t ≡ accepted ts → c ≤ 4 →
+    componentCode room (sheetAfter s (accepted ts)) c ≡ stretchStart (lengthsOf (accepted ts)) c * 2 ^ 32 + stretchLength (lengthsOf (accepted ts)) c
+component-code room s f t ts c h = entry.entry-component room s f t ts h c
+
+-- With any sheet, this fits 64 bits.
+pub component-fits : (room : ℕ) (s : Text) (c : ℕ) → componentCode room s c < 2 ^ 64
+component-fits = sheets.code-fits
+
 -- Demand 3, joined files. Of two files that are accepted for a profile, the first is empty or ends with a newline that ends a line, and the second
 -- names no group that the first defines. "The joined file is the first's bytes, then the second's; its limits are 65,536 bytes, 64 groups and a total
 -- of 1,048,576 bytes." With room for it, "a component's base text equals the first answer's, or the second's where that is empty, and its additions
 -- text equals the first's followed by the second's".
-pub joined-files : (a b : Text) (t : Texts) (room-a room-b room : ℕ) (xs ys : List Text) →
-    answer room-a a t ≡ accepted xs →
-    answer room-b b t ≡ accepted ys →
-    closed a ≡ true →
-    apart (namesOf b) (definesOf a) ≡ true →
-    length (a ++ b) ≤ longestFile →
-    length (definesOf a) + length (definesOf b) ≤ mostGroups →
-    total (together xs ys) ≤ longestTotal →
-    total (together xs ys) ≤ room →
-    answer room (a ++ b) t ≡ accepted (together xs ys)
-joined-files = laws.joined-answer
+module _ (a b : Text) (t : Texts) (room-a room-b room : ℕ) (xs ys : List Text)
+    (first : answer room-a a t ≡ accepted xs)
+    (second : answer room-b b t ≡ accepted ys)
+    (ended : closed a ≡ true)
+    (unshared : apart (namesOf b) (definesOf a) ≡ true)
+    (size : length (a ++ b) ≤ longestFile)
+    (groups : length (definesOf a) + length (definesOf b) ≤ mostGroups)
+    (top : total (together xs ys) ≤ longestTotal)
+    (enough : total (together xs ys) ≤ room) where
+  pub joined-files : answer room (a ++ b) t ≡ accepted (together xs ys)
+  joined-files = laws.joined-answer a b t room-a room-b room xs ys first second ended unshared size groups top enough
+
+  -- so for C, with a sheet of 40 bytes or more
+  pub joined-entry : (sheet : ℕ) → sheetLength ≤ sheet → entryAnswer room sheet (a ++ b) t ≡ accepted (together xs ys)
+  joined-entry sheet h = rw (entry.entry-same room sheet (a ++ b) t h) joined-files
+
+-- "the same answer (number, place and lengths)", and "the same bytes" left in a buffer that held d
+pub record Same (d : Text) (a a′ : Answer) : Type 0 where
+  pub number : numberOf a ≡ numberOf a′
+  pub place : placeOf a ≡ placeOf a′
+  pub lengths : lengthsOf a ≡ lengthsOf a′
+  pub bytes : bufferAfter d a ≡ bufferAfter d a′
+
+same : (d : Text) (a a′ : Answer) → a ≡ a′ → Same d a a′
+same d a a′ e = record { number = ap numberOf e; place = ap placeOf e; lengths = ap lengthsOf e; bytes = ap (bufferAfter d) e }
 
 -- Demand 3, options. "Two resolves that differ only in this, with buffers of the same bytes, give the same answer (number, place and lengths) and
 -- leave the same bytes.", refusals included.
-pub options-alike : (d f : Text) (t : Texts) (o o′ : Text) →
-    Alike o o′ →
-    Within o →
-    Within o′ →
-    (answer (length d) f (withOptions t o) ≡ answer (length d) f (withOptions t o′)) ×
-    (bufferAfter d (answer (length d) f (withOptions t o)) ≡ bufferAfter d (answer (length d) f (withOptions t o′)))
-options-alike d f t o o′ h w w′ = let e = laws.options-answer (length d) f t o o′ h w w′ in (e, ap (bufferAfter d) e)
+module _ (d f : Text) (t : Texts) (o o′ : Text)
+    (alike : Alike o o′)
+    (within : Within o)
+    (within′ : Within o′) where
+  pub options-alike : Same d (answer (length d) f (withOptions t o)) (answer (length d) f (withOptions t o′))
+  options-alike = same d _ _ (laws.options-answer (length d) f t o o′ alike within within′)
+
+  -- so for C, and the sheets have the same bytes
+  pub options-entry : (s : Text) →
+      Same d (entryAnswer (length d) (length s) f (withOptions t o)) (entryAnswer (length d) (length s) f (withOptions t o′)) ×
+      (sheetAfter s (entryAnswer (length d) (length s) f (withOptions t o)) ≡ sheetAfter s (entryAnswer (length d) (length s) f (withOptions t o′)))
+  options-entry s = let e = entry.entry-options (length d) (length s) f t o o′ alike within within′ in (same d _ _ e, ap (sheetAfter s) e)
