@@ -1,14 +1,15 @@
--- The marked examples of document 01, "Checked examples": one table, and one theorem over it by computation.
+-- The examples of document 01, "Checked examples", marked and unmarked, and the one of its program: one table, and one theorem over it by computation.
 use Prim.Native.Nat.{ℕ}
 use Prim.Native.String.{String}
 use mathlib.Core.Path.{_≡_, refl}
 use mathlib.Core.List.{List, [], _∷_, _++_, map}
+use lib.ListN.{replicate}
 use Rattle.text.specs.Bytes.{bytes, same, empty, first, rest, allOf, anyOf, concatMap, Text}
 use Rattle.text.specs.Lines.{run, words, heading, feeds, inside, linesOf, lines}
 use Rattle.text.specs.Marks.{classOf, step, marks}
 use Rattle.text.specs.Refusals.{refusedIf, refusedAs}
 use Rattle.text.specs.Words.{badByte, tooLong, wordsFault}
-use Rattle.profile.specs.Profile.{push, fields, dropEmpty, optionsOf, profileOf, layoutCount, Texts}
+use Rattle.profile.specs.Profile.{push, fields, dropEmpty, optionsOf, profileOf, layoutCount, Texts, textsOf}
 use Rattle.profile.specs.Refusals.{outside, longField, badText, textRefusals, countRefusals, profileRefusals}
 use Rattle.rules.specs.Entries.{before, after, setShape, setEntry, groupEntry, headingEntry, ruleEntry, entryOf}
 use Rattle.rules.specs.Faults.{defined, withGroup, leftWords, rightWords, ruleShape, shapeFault, ruleFault, orphans, headFaults, faults, lineFaults, fileRefusals}
@@ -18,7 +19,7 @@ use Rattle.rules.specs.Sections.{addEntry, sections}
 use Rattle.rules.specs.Words.{isEquals, isStar, hasDollar, ordinary, isGroupName, leftWord}
 use Rattle.values.specs.Spread.{isSign, signed, cuts, endsAll, stem, copy, copies, spread, expanded}
 use Rattle.values.specs.Values.{choose, valueOf, pieceText, filled}
-use Rattle.resolver.specs.Answer.{textsFrom, tenTexts, sum, joined, total, noRoom, refusals, firstOf, answer, Answer, refused, accepted}
+use Rattle.resolver.specs.Answer.{textsFrom, tenTexts, sum, joined, total, noRoom, refusals, firstOf, answer, Answer, refused, accepted, numberOf, placeOf}
 use Rattle.resolver.specs.Components.{valuesOf, base, additions}
 use Rattle.resolver.specs.Firings.{fired, ruleFires, setFires, headFires, firings, fileFirings}
 use Rattle.resolver.specs.Layouts.{layoutsAt, perLayout, layoutsOf}
@@ -37,27 +38,47 @@ pairs (b ∷ a ∷ r) = (b ++ a) ∷ pairs r
 
 unfoldable pub outcome : Answer → Outcome
 outcome (accepted ts) = strings (pairs ts)
-outcome (refused r) = refusal (r .number) (r .place)
+outcome (refused r) = refusal (numberOf (refused r)) (placeOf (refused r))
 
--- the buffer's length, the file, layouts and variants
+-- the buffer's length, the file and the four texts
 pub record Example : Type 0 where
   pub room : ℕ
-  pub file : String
-  pub layouts : String
-  pub variants : String
+  pub file : Text
+  pub profile : Texts
   pub wanted : Outcome
 
 unfoldable pub resolved : Example → Outcome
-resolved e =
-    outcome (answer (e .room) (bytes (e .file)) (record { model = []; layouts = bytes (e .layouts); variants = bytes (e .variants); options = [] }))
+resolved e = outcome (answer (e .room) (e .file) (e .profile))
+
+-- layouts and variants, with no model and no options
+unfoldable pub profile : String → String → Texts
+profile l v = textsOf [] (bytes l) (bytes v) []
 
 -- symbols for the layouts, with room enough
 unfoldable pub symbols : String → String → String → String → Example
-symbols f l v w = record { room = 65536; file = f; layouts = l; variants = v; wanted = strings ([] ∷ [] ∷ [] ∷ bytes w ∷ [] ∷ []) }
+symbols f l v w = record { room = 65536; file = bytes f; profile = profile l v; wanted = strings ([] ∷ [] ∷ [] ∷ bytes w ∷ [] ∷ []) }
 
 -- the same for a buffer of a given length, where the outcome is given
 unfoldable pub within : ℕ → String → Outcome → Example
-within n f w = record { room = n; file = f; layouts = "us"; variants = ""; wanted = w }
+within n f w = record { room = n; file = bytes f; profile = profile "us" ""; wanted = w }
+
+-- the same for a number of layouts
+unfoldable pub layouts : String → Outcome → Example
+layouts l w = record { room = 65536; file = bytes "! model = symbols\n* = a\n"; profile = profile l ""; wanted = w }
+
+-- the same for a word of n bytes
+unfoldable pub word : ℕ → Outcome → Example
+word n w = record { room = 65536; file = bytes "! model = symbols\n* = " ++ replicate n 97; profile = profile "us" ""; wanted = w }
+
+-- the program's example
+unfoldable pub program : Example
+program =
+    record {
+      room = 65536;
+      file = bytes "! $west = fr be\n! model = keycodes\ndesk9 = desk(nine)\n* = evdev\n! layout[first] = symbols\n* = pc+%l[%i]%(v[%i])\n! layout[later] = symbols\n$west = +%l[%i]%(v[%i]):%i\n! layout = types\n* = complete\n! option = symbols types\nctrl:nocaps = +ctrl(nocaps):all |caps\n";
+      profile = textsOf (bytes "pc") (bytes "us,fr") (bytes ",bepo") (bytes "ctrl:nocaps");
+      wanted = strings (bytes "evdev" ∷ bytes "|caps" ∷ [] ∷ bytes "pc+us+fr(bepo):2+ctrl(nocaps):1+ctrl(nocaps):2" ∷ [] ∷ []);
+    }
 
 unfoldable pub examples : List Example
 examples =
@@ -75,8 +96,14 @@ examples =
     symbols "! model = symbols\n* = %l[1]\n" "us" "" "" ∷
     symbols "! model = symbols\n* = %l\n" "us,il" "" "" ∷
     within 5 "! model = symbols\n* = ab+cd\n" (strings ([] ∷ [] ∷ [] ∷ bytes "ab+cd" ∷ [] ∷ [])) ∷
-    within 4 "! model = symbols\n* = ab+cd\n" (refusal 11 0) ∷ []
+    within 4 "! model = symbols\n* = ab+cd\n" (refusal 11 0) ∷
+    layouts "us,fr,de,es" (strings ([] ∷ [] ∷ [] ∷ bytes "a" ∷ [] ∷ [])) ∷
+    layouts "us,fr,de,es,it" (refusal 2 2) ∷
+    word 256 (strings ([] ∷ [] ∷ [] ∷ replicate 256 97 ∷ [] ∷ [])) ∷
+    word 257 (refusal 5 2) ∷
+    symbols "" "us" "" "" ∷
+    program ∷ []
 
 pub checked : map resolved examples ≡ map (λ e. e .wanted) examples
-unfolding examples symbols within resolved outcome pairs bytes same empty first rest allOf anyOf concatMap run words heading feeds inside linesOf lines classOf step marks refusedIf refusedAs badByte tooLong wordsFault push fields dropEmpty optionsOf profileOf layoutCount outside longField badText textRefusals countRefusals profileRefusals before after setShape setEntry groupEntry headingEntry ruleEntry entryOf defined withGroup leftWords rightWords ruleShape shapeFault ruleFault orphans headFaults faults lineFaults fileRefusals decimal upFrom numberedIn indexOf leftItem componentOf columnsIn indexesIn columnNumber indexNumber knownIndex knownItem distinct alike firstIndex headingOf goodItems hasWord whichOf variableOf whichLength variableLength isPrefix inParens pieceAfter pieceLength pieces badWhich badVariable badPiece malformed addEntry sections isEquals isStar hasDollar ordinary isGroupName leftWord isSign signed cuts endsAll stem copy copies spread expanded choose valueOf pieceText filled textsFrom tenTexts sum joined total noRoom refusals firstOf answer valuesOf base additions fired ruleFires setFires headFires firings fileFirings layoutsAt perLayout layoutsOf members wordMatches valueMatches columnMatches ruleMatches isOptions
+unfolding examples symbols within layouts word program profile resolved outcome pairs bytes same empty first rest allOf anyOf concatMap run words heading feeds inside linesOf lines classOf step marks refusedIf refusedAs badByte tooLong wordsFault push fields dropEmpty optionsOf profileOf layoutCount outside longField badText textRefusals countRefusals profileRefusals before after setShape setEntry groupEntry headingEntry ruleEntry entryOf defined withGroup leftWords rightWords ruleShape shapeFault ruleFault orphans headFaults faults lineFaults fileRefusals decimal upFrom numberedIn indexOf leftItem componentOf columnsIn indexesIn columnNumber indexNumber knownIndex knownItem distinct alike firstIndex headingOf goodItems hasWord whichOf variableOf whichLength variableLength isPrefix inParens pieceAfter pieceLength pieces badWhich badVariable badPiece malformed addEntry sections isEquals isStar hasDollar ordinary isGroupName leftWord isSign signed cuts endsAll stem copy copies spread expanded choose valueOf pieceText filled textsFrom tenTexts sum joined total noRoom refusals firstOf answer numberOf placeOf valuesOf base additions fired ruleFires setFires headFires firings fileFirings layoutsAt perLayout layoutsOf members wordMatches valueMatches columnMatches ruleMatches isOptions
 checked = refl
