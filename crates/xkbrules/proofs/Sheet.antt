@@ -30,7 +30,7 @@ read-back x s h =
 number-behind : (x : ℕ) (s : Text) (i : ℕ) → numberAt (littleEndian x ++ s) (i + 4) ≡ numberAt s i
 unfolding numberAt littleEndian
 number-behind x s i =
-    let p = x % 256 ∷ x / 256 % 256 ∷ x / 65536 % 256 ∷ x / 16777216 % 256 ∷ [] in
+    let p = littleEndian x in
     let a : i + 4 ≡ 4 + i = omega arith in
     let b : i + 4 + 1 ≡ 4 + (i + 1) = omega arith in
     let c : i + 4 + 2 ≡ 4 + (i + 2) = omega arith in
