@@ -1,7 +1,7 @@
 -- What is promised of every resolve, over the definitions of document 01. Each proof cites a law.
 -- `answer` is the answer of a resolve; `entryAnswer` is that of the entry for C, which is lent a sheet for the lengths besides.
 use Prim.Native.Nat.{ℕ, _+_, _*_, _^_, _≤_, _<_}
-use mathlib.Core.Path.{_≡_, refl, ap}
+use mathlib.Core.Path.{_≡_, ap}
 use mathlib.Core.List.{List, [], _++_}
 use mathlib.Core.Bool.{true}
 use lib.ListN.{length, drop, getD, replicate}
@@ -62,6 +62,12 @@ counts room f t ts h = (fits.few-layouts room f t ts h, fits.few-variants room f
 pub update-stepwise : (f : Text) (t : Texts) (c : ℕ) →
     updates [] (valuesOf c (fileFirings f (profileOf t))) ≡ base (valuesOf c (fileFirings f (profileOf t))) ++ additions (valuesOf c (fileFirings f (profileOf t)))
 update-stepwise f t c = stepwise (valuesOf c (fileFirings f (profileOf t))) (file-values f (profileOf t) c)
+
+-- "The accepted answer is .. base and additions for keycodes, types, compat, symbols, geometry, in that order", the texts of component c at 2c and 2c + 1.
+pub texts-in-order : (room : ℕ) (f : Text) (t : Texts) (ts : List Text) (c : ℕ) → answer room f t ≡ accepted ts → c ≤ 4 →
+    (getD ts (2 * c) [] ≡ base (valuesOf c (fileFirings f (profileOf t)))) ×
+    (getD ts (2 * c + 1) [] ≡ additions (valuesOf c (fileFirings f (profileOf t))))
+texts-in-order room f t ts c h = fits.texts-at room f t ts h c
 
 -- "A caller may ask for one component and gets back that stretch of its own buffer, base and additions together":
 pub component : (d f : Text) (t : Texts) (ts : List Text) (c : ℕ) → answer (length d) f t ≡ accepted ts → c ≤ 4 →

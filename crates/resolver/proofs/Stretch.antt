@@ -2,7 +2,7 @@
 use Prim.Native.Nat.{ℕ, zero, suc, _+_, _*_, _-_, _≤_, _<_}
 use native.Mathlib.Nat.{zero-add, sub-zero}
 use native.Mathlib.Omega.{arith}
-use mathlib.Core.Path.{_≡_, refl, sym, ap, _∙_}
+use mathlib.Core.Path.{_≡_, refl, ap, _∙_}
 use mathlib.Core.List.{List, [], _∷_, _++_, map, append-assoc, append-nil}
 use mathlib.Core.Bool.{Bool, true, false, _||_, cond}
 use lib.ListN.{length, take, drop, getD, length-append}
@@ -10,7 +10,7 @@ use lib.Seq.{take-nil, take-append-add, drop-append-add}
 use lib.Dec.{ltb}
 use borrow.Author.Tests.{lt-ltb, le-ltb}
 use Rattle.text.specs.Bytes.{Text}
-use Rattle.resolver.specs.Answer.{sum, joined, total, Answer, accepted, lengthsOf, bufferAfter, stretchStart, stretchLength, stretch}
+use Rattle.resolver.specs.Answer.{sum, joined, total, accepted, lengthsOf, bufferAfter, stretchStart, stretchLength, stretch}
 
 -- sums
 

@@ -1,18 +1,18 @@
 -- The answer for C: that of the resolve, but for a sheet that is too short.
 use Prim.Native.Nat.{ℕ, _+_, _*_, _^_, _≤_, _<_}
 use native.Mathlib.Omega.{arith}
-use mathlib.Core.Path.{_≡_, refl, sym, ap, _∙_}
+use mathlib.Core.Path.{_≡_, refl, sym, _∙_}
 use mathlib.Core.List.{List, [], _∷_, _++_, map, append-nil}
-use mathlib.Core.Bool.{Bool, true, false, _||_, cond}
+use mathlib.Core.Bool.{Bool, true, false}
 use lib.ListN.{length, drop}
-use lib.Dec.{leb, ltb}
+use lib.Dec.{ltb}
 use borrow.Author.Tests.{lt-ltb, le-ltb, ltb-true, ltb-false, lt-leb}
 use Rattle.text.specs.declared.Refusal.{Refusal}
 use Rattle.text.specs.Limits.{longestTotal}
 use Rattle.text.specs.Bytes.{Text}
 use Rattle.text.specs.Refusals.{refusedIf}
-use Rattle.text.proofs.Lists.{nil-left, nil-right}
-use Rattle.profile.specs.Profile.{Texts, profileOf}
+use Rattle.text.proofs.Lists.{nil-right}
+use Rattle.profile.specs.Profile.{Texts}
 use Rattle.profile.specs.Options.{Alike, Within, withOptions}
 use Rattle.profile.proofs.Options.{same-profile, same-refusals}
 use Rattle.profile.proofs.Counts.{untested}

@@ -1,16 +1,16 @@
 -- The sheet of lengths: what is written is read back, and a component's code fits 64 bits.
-use Prim.Native.Nat.{ℕ, zero, suc, _+_, _*_, _-_, _/_, _%_, _^_, _≤_, _<_}
+use Prim.Native.Nat.{ℕ, zero, suc, _+_, _*_, _/_, _%_, _^_, _≤_, _<_}
 use native.Mathlib.Nat.{div-div-eq-div-mul}
 use native.Mathlib.Omega.{arith}
-use mathlib.Core.Path.{_≡_, refl, sym, ap, _∙_}
+use mathlib.Core.Path.{_≡_, refl, sym, _∙_}
 use mathlib.Core.List.{List, [], _∷_, _++_, map, append-assoc}
 use mathlib.Core.Bool.{Bool, true, false, _||_, cond}
-use lib.ListN.{length, getD, drop, length-append, length-drop, length-map}
+use lib.ListN.{length, drop, length-append, length-drop, length-map}
 use lib.Seq.{getD-append-add, drop-at}
 use lib.Dec.{leb, ltb}
 use borrow.Author.Tests.{leb-false}
 use Rattle.text.specs.Bytes.{Text, concatMap}
-use Rattle.resolver.specs.Answer.{sum, total, Answer, accepted, stretchStart, stretchLength}
+use Rattle.resolver.specs.Answer.{sum, total, accepted, stretchStart, stretchLength}
 use Rattle.resolver.proofs.Stretch.{sum-take}
 use Rattle.xkbrules.specs.Sheet.{sheetLength, littleEndian, sheetAfter, numberAt, numbersFrom, lengthsIn, componentCode}
 

@@ -1,7 +1,7 @@
 -- What C sees of an answer. Document 01, "What the resolver does": the number returned and the sheet of lengths.
 use Prim.Native.Nat.{ℕ, zero, suc, _+_, _*_, _/_, _%_, _^_}
 use mathlib.Core.List.{List, [], _∷_, _++_, map}
-use mathlib.Core.Bool.{Bool, _||_, cond}
+use mathlib.Core.Bool.{_||_, cond}
 use lib.ListN.{length, getD, drop}
 use lib.Dec.{leb, ltb}
 use Rattle.text.specs.declared.Refusal.{Refusal}
