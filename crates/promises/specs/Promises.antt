@@ -2,7 +2,7 @@
 -- `answer` is the answer of a resolve; `entryAnswer` is that of the entry for C, which is lent a sheet for the lengths besides.
 use Prim.Native.Nat.{ℕ, _+_, _*_, _^_, _≤_, _<_}
 use mathlib.Core.Path.{_≡_, ap}
-use mathlib.Core.List.{List, [], _++_}
+use mathlib.Core.List.{List, [], _++_, map}
 use mathlib.Core.Bool.{true}
 use lib.ListN.{length, drop, getD, replicate}
 use Rattle.text.specs.declared.Refusal.{Refusal}
@@ -39,7 +39,12 @@ pub buffer-kept : (d f : Text) (t : Texts) (r : Refusal) → answer (length d) f
 unfolding bufferAfter
 buffer-kept d f t r h = rw h
 
--- "A refusal has ten zero lengths; buffer and length sheet stay untouched.", also where the sheet itself is too short
+-- "A refusal has ten zero lengths":
+pub zero-lengths : (room : ℕ) (f : Text) (t : Texts) (r : Refusal) → answer room f t ≡ refused r → lengthsOf (answer room f t) ≡ replicate 10 0
+unfolding lengthsOf
+zero-lengths room f t r h = rw h
+
+-- and for C, "A refusal has ten zero lengths; buffer and length sheet stay untouched.", also where the sheet itself is too short
 pub sheet-kept : (d s f : Text) (t : Texts) (r : Refusal) → entryAnswer (length d) (length s) f t ≡ refused r →
     (lengthsOf (entryAnswer (length d) (length s) f t) ≡ replicate 10 0) ×
     (bufferAfter d (entryAnswer (length d) (length s) f t) ≡ d) ×
@@ -63,7 +68,13 @@ pub update-stepwise : (f : Text) (t : Texts) (c : ℕ) →
     updates [] (valuesOf c (fileFirings f (profileOf t))) ≡ base (valuesOf c (fileFirings f (profileOf t))) ++ additions (valuesOf c (fileFirings f (profileOf t)))
 update-stepwise f t c = stepwise (valuesOf c (fileFirings f (profileOf t))) (file-values f (profileOf t) c)
 
--- "The accepted answer is .. base and additions for keycodes, types, compat, symbols, geometry, in that order", the texts of component c at 2c and 2c + 1.
+-- "The accepted answer is number 0, place 0 and ten lengths:
+pub accepted-values : (room : ℕ) (f : Text) (t : Texts) (ts : List Text) → answer room f t ≡ accepted ts →
+    (numberOf (answer room f t) ≡ 0) × (placeOf (answer room f t) ≡ 0) × (lengthsOf (answer room f t) ≡ map length ts)
+unfolding numberOf placeOf lengthsOf
+accepted-values room f t ts h = (rw h, rw h, rw h)
+
+-- base and additions for keycodes, types, compat, symbols, geometry, in that order": those of component c are the texts 2c and 2c + 1, counted from 0.
 pub texts-in-order : (room : ℕ) (f : Text) (t : Texts) (ts : List Text) (c : ℕ) → answer room f t ≡ accepted ts → c ≤ 4 →
     (getD ts (2 * c) [] ≡ base (valuesOf c (fileFirings f (profileOf t)))) ×
     (getD ts (2 * c + 1) [] ≡ additions (valuesOf c (fileFirings f (profileOf t))))
@@ -82,10 +93,11 @@ component-number = parts.stretch-number
 pub component-lengths : (d : Text) (ns : List ℕ) (c : ℕ) → length d < sum ns → stretch d ns c ≡ []
 component-lengths = parts.stretch-lengths
 
--- The answer for C is that of the resolve where the sheet has 40 bytes or more. Where it is shorter, a refusal is the same,
+-- The answer for C is that of the resolve where the sheet has 40 bytes or more.
 pub entry-same : (room sheet : ℕ) (f : Text) (t : Texts) → sheetLength ≤ sheet → entryAnswer room sheet f t ≡ answer room f t
 entry-same = entry.entry-same
 
+-- With a sheet of any length, a refusal of the resolve is the answer for C,
 pub entry-refused : (room sheet : ℕ) (f : Text) (t : Texts) (r : Refusal) → answer room f t ≡ refused r → entryAnswer room sheet f t ≡ refused r
 entry-refused = entry.entry-refused
 
@@ -139,8 +151,9 @@ pub record Same (d : Text) (a a′ : Answer) : Type 0 where
   pub lengths : lengthsOf a ≡ lengthsOf a′
   pub bytes : bufferAfter d a ≡ bufferAfter d a′
 
-same : (d : Text) (a a′ : Answer) → a ≡ a′ → Same d a a′
-same d a a′ e = record { number = ap numberOf e; place = ap placeOf e; lengths = ap lengthsOf e; bytes = ap (bufferAfter d) e }
+-- equal answers are the same in this
+same-answers : (d : Text) (a a′ : Answer) → a ≡ a′ → Same d a a′
+same-answers d a a′ e = record { number = ap numberOf e; place = ap placeOf e; lengths = ap lengthsOf e; bytes = ap (bufferAfter d) e }
 
 -- Demand 3, options. "Two resolves that differ only in this, with buffers of the same bytes, give the same answer (number, place and lengths) and
 -- leave the same bytes.", refusals included.
@@ -149,10 +162,10 @@ module _ (d f : Text) (t : Texts) (o o′ : Text)
     (within : Within o)
     (within′ : Within o′) where
   pub options-alike : Same d (answer (length d) f (withOptions t o)) (answer (length d) f (withOptions t o′))
-  options-alike = same d _ _ (laws.options-answer (length d) f t o o′ alike within within′)
+  options-alike = same-answers d _ _ (laws.options-answer (length d) f t o o′ alike within within′)
 
   -- so for C, and the sheets have the same bytes
   pub options-entry : (s : Text) →
       Same d (entryAnswer (length d) (length s) f (withOptions t o)) (entryAnswer (length d) (length s) f (withOptions t o′)) ×
       (sheetAfter s (entryAnswer (length d) (length s) f (withOptions t o)) ≡ sheetAfter s (entryAnswer (length d) (length s) f (withOptions t o′)))
-  options-entry s = let e = entry.entry-options (length d) (length s) f t o o′ alike within within′ in (same d _ _ e, ap (sheetAfter s) e)
+  options-entry s = let e = entry.entry-options (length d) (length s) f t o o′ alike within within′ in (same-answers d _ _ e, ap (sheetAfter s) e)
