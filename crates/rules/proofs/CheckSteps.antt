@@ -49,7 +49,7 @@ pub fence-tail : (s : Text) (f from n : ℕ) → Fenced s f → n ≡ f - from �
 fence-tail s f from n v e x xe = rw (xe, e) (fence-part s f from v)
 
 -- the line that is read, and the lines after it
-module _ (s t : Text) (at n : ℕ) (h : Bool) (from m : ℕ) (r : Split) (lt : at < length s) (o : Opens s at n h from m) (v : IsSplit (drop from s) t r) where
+module _ (s t : Text) (at n : ℕ) (h : Bool) (from m : ℕ) (r : Split) (lt : at < length s) (o : Opens s at n h from m) (v : IsSplit h (drop from s) t r) where
   pub line-read : follow s at n ≡ lineOf n h (wordsOf (drop from s)) ∷ follow s (from + r .next) (m + r .line)
   unfolding follow lineAt left ahead wordsOf
   line-read =
@@ -261,8 +261,8 @@ unfolding entryOf
 entry-any n h ws = refl
 
 module _ (s t u : Text) (p : Progress) (h : Bool) (from m : ℕ) (x : Text) (r : Split) (xe : x ≡ drop from s)
-    (lt : p .at < length s) (o : Opens s (p .at) (p .line) h from m) (v₀ : IsSplit x u r) (w : Ready s t p) where
-  v : IsSplit (drop from s) u r
+    (lt : p .at < length s) (o : Opens s (p .at) (p .line) h from m) (v₀ : IsSplit h x u r) (w : Ready s t p) where
+  v : IsSplit h (drop from s) u r
   v = rw xe at v₀
 
   step-by : (t′ : Text) (q : Progress) → q .at ≡ from + r .next → q .line ≡ m + r .line →

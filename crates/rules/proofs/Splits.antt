@@ -18,29 +18,36 @@ use Rattle.rules.specs.declared.Tally.{Tally}
 use Rattle.rules.specs.declared.Split.{Split}
 use Rattle.rules.specs.Words.{isEquals, ordinary}
 use Rattle.rules.specs.Entries.{before, after}
-use Rattle.rules.specs.Splitting.{wordsOf, mostPlaced, tallied, Tallied, stored, IsWord, Placed, IsSplit}
+use Rattle.rules.specs.Splitting.{wordsOf, mostPlaced, tallied, counted, Tallied, stored, IsWord, Placed, IsSplit}
 
 -- the tally of words, from the first on
 
-unfoldable pub tallies : Tally → Words → Tally
-tallies t [] = t
-tallies t (w ∷ ws) = tallies (tallied t w) ws
+unfoldable pub tallies : Bool → Tally → Words → Tally
+tallies h t [] = t
+tallies h t (w ∷ ws) = tallies h (counted h t w) ws
 
 abbrev pub nothing : Tally
 nothing = record { count = 0; first = 0; seen = false; again = false; plain = true }
 
-tallies-nil : (t : Tally) → tallies t [] ≡ t
+tallies-nil : (h : Bool) (t : Tally) → tallies h t [] ≡ t
 unfolding tallies
-tallies-nil t = refl
+tallies-nil h t = refl
 
-tallies-cons : (t : Tally) (w : Text) (ws : Words) → tallies t (w ∷ ws) ≡ tallies (tallied t w) ws
+tallies-cons : (h : Bool) (t : Tally) (w : Text) (ws : Words) → tallies h t (w ∷ ws) ≡ tallies h (counted h t w) ws
 unfolding tallies
-tallies-cons t w ws = refl
+tallies-cons h t w ws = refl
 
-count-all : (t : Tally) (ws : Words) → tallies t ws .count ≡ t .count + length ws
-unfolding tallies tallied
-count-all t [] = sym (add-zero (t .count))
-count-all t (w ∷ ws) = count-all (tallied t w) ws ∙ (let e : t .count + 1 + length ws ≡ t .count + length (w ∷ ws) = omega arith in e)
+count-more : (h : Bool) (n : Tally) (w : Text) → counted h n w .count ≡ n .count + 1
+unfolding counted tallied
+count-more true n w = refl
+count-more false n w = refl
+
+count-all : (h : Bool) (t : Tally) (ws : Words) → tallies h t ws .count ≡ t .count + length ws
+unfolding tallies
+count-all h t [] = sym (add-zero (t .count))
+count-all h t (w ∷ ws) =
+    let c = count-more h t w in
+    count-all h (counted h t w) ws ∙ (let e : counted h t w .count + length ws ≡ t .count + length (w ∷ ws) = omega (arith, c) in e)
 
 before-cons : (w : Text) (ws : Words) → before (w ∷ ws) ≡ cond (isEquals w) [] (w ∷ before ws)
 unfolding before
@@ -50,23 +57,23 @@ after-cons : (w : Text) (ws : Words) → after (w ∷ ws) ≡ cond (isEquals w) 
 unfolding after
 after-cons w ws = refl
 
-first-seen : (t : Tally) (ws : Words) → t .seen ≡ true → tallies t ws .first ≡ t .first
-unfolding tallies tallied
+first-seen : (t : Tally) (ws : Words) → t .seen ≡ true → tallies true t ws .first ≡ t .first
+unfolding tallies counted tallied
 first-seen t [] h = refl
 first-seen t (w ∷ ws) h = first-seen (tallied t w) ws (rw h) ∙ rw h
 
-first-all : (t : Tally) (ws : Words) → t .seen ≡ false → tallies t ws .first ≡ t .first + length (before ws)
-unfolding tallies tallied before
+first-all : (t : Tally) (ws : Words) → t .seen ≡ false → tallies true t ws .first ≡ t .first + length (before ws)
+unfolding tallies counted tallied before
 first-all t [] h = sym (add-zero (t .first))
 first-all t (w ∷ ws) h = go (isEquals w) refl (first-all (tallied t w) ws)
   where
-    go : (e : Bool) → isEquals w ≡ e → (tallied t w .seen ≡ false → tallies (tallied t w) ws .first ≡ tallied t w .first + length (before ws)) →
-        tallies (tallied t w) ws .first ≡ t .first + length (cond (isEquals w) [] (w ∷ before ws))
+    go : (e : Bool) → isEquals w ≡ e → (tallied t w .seen ≡ false → tallies true (tallied t w) ws .first ≡ tallied t w .first + length (before ws)) →
+        tallies true (tallied t w) ws .first ≡ t .first + length (cond (isEquals w) [] (w ∷ before ws))
     go true e ih = first-seen (tallied t w) ws (rw (h, e)) ∙ rw (h, e) (sym (add-zero (t .first)))
     go false e ih = ih (rw (h, e)) ∙ rw (h, e) (let z : t .first + 1 + length (before ws) ≡ t .first + length (w ∷ before ws) = omega arith in z)
 
-again-seen : (t : Tally) (ws : Words) → t .seen ≡ true → tallies t ws .again ≡ (t .again || anyOf isEquals ws)
-unfolding tallies tallied anyOf
+again-seen : (t : Tally) (ws : Words) → t .seen ≡ true → tallies true t ws .again ≡ (t .again || anyOf isEquals ws)
+unfolding tallies counted tallied anyOf
 again-seen t [] h = go (t .again)
   where
     go : (b : Bool) → b ≡ (b || false)
@@ -74,18 +81,18 @@ again-seen t [] h = go (t .again)
     go false = refl
 again-seen t (w ∷ ws) h = again-seen (tallied t w) ws (rw h) ∙ rw h (or-assoc (t .again) (isEquals w) (anyOf isEquals ws))
 
-again-all : (t : Tally) (ws : Words) → t .seen ≡ false → t .again ≡ false → tallies t ws .again ≡ anyOf isEquals (after ws)
-unfolding tallies tallied after anyOf
+again-all : (t : Tally) (ws : Words) → t .seen ≡ false → t .again ≡ false → tallies true t ws .again ≡ anyOf isEquals (after ws)
+unfolding tallies counted tallied after anyOf
 again-all t [] h k = k
 again-all t (w ∷ ws) h k = go (isEquals w) refl (again-all (tallied t w) ws)
   where
-    go : (e : Bool) → isEquals w ≡ e → (tallied t w .seen ≡ false → tallied t w .again ≡ false → tallies (tallied t w) ws .again ≡ anyOf isEquals (after ws)) →
-        tallies (tallied t w) ws .again ≡ anyOf isEquals (cond (isEquals w) ws (after ws))
+    go : (e : Bool) → isEquals w ≡ e → (tallied t w .seen ≡ false → tallied t w .again ≡ false → tallies true (tallied t w) ws .again ≡ anyOf isEquals (after ws)) →
+        tallies true (tallied t w) ws .again ≡ anyOf isEquals (cond (isEquals w) ws (after ws))
     go true e ih = again-seen (tallied t w) ws (rw (h, e)) ∙ rw (h, e)
     go false e ih = ih (rw (h, e)) (rw h) ∙ rw e
 
-plain-all : (t : Tally) (ws : Words) → tallies t ws .plain ≡ (t .plain && allOf ordinary (drop (2 - t .count) ws))
-unfolding tallies tallied allOf
+plain-all : (t : Tally) (ws : Words) → tallies true t ws .plain ≡ (t .plain && allOf ordinary (drop (2 - t .count) ws))
+unfolding tallies counted tallied allOf
 plain-all t [] = drop-none (2 - t .count)
   where
     go : (b : Bool) → b ≡ (b && true)
@@ -97,8 +104,8 @@ plain-all t [] = drop-none (2 - t .count)
     drop-none (suc k) = go (t .plain)
 plain-all t (w ∷ ws) = go (ltb (t .count) 2) refl (plain-all (tallied t w) ws)
   where
-    go : (b : Bool) → ltb (t .count) 2 ≡ b → tallies (tallied t w) ws .plain ≡ (tallied t w .plain && allOf ordinary (drop (2 - tallied t w .count) ws)) →
-        tallies (tallied t w) ws .plain ≡ (t .plain && allOf ordinary (drop (2 - t .count) (w ∷ ws)))
+    go : (b : Bool) → ltb (t .count) 2 ≡ b → tallies true (tallied t w) ws .plain ≡ (tallied t w .plain && allOf ordinary (drop (2 - tallied t w .count) ws)) →
+        tallies true (tallied t w) ws .plain ≡ (t .plain && allOf ordinary (drop (2 - t .count) (w ∷ ws)))
     go true e ih =
         let l : t .count < 2 = ltb-true _ _ e in
         let q : 2 - t .count ≡ suc (2 - (t .count + 1)) = omega arith in
@@ -109,10 +116,10 @@ plain-all t (w ∷ ws) = go (ltb (t .count) 2) refl (plain-all (tallied t w) ws)
         let r : 2 - (t .count + 1) ≡ 0 = omega arith in
         ih ∙ rw (e, q, r) (and-assoc (t .plain) (ordinary w) (allOf ordinary ws))
 
-pub tallied-all : (ws : Words) (t : Tally) → t ≡ tallies nothing ws → Tallied ws t
+tallied-all : (ws : Words) (t : Tally) → t ≡ tallies true nothing ws → Tallied ws t
 tallied-all ws t e =
     record {
-      count = ap (λ (x : Tally). x .count) e ∙ (count-all nothing ws ∙ zero-add (length ws));
+      count = ap (λ (x : Tally). x .count) e ∙ (count-all true nothing ws ∙ zero-add (length ws));
       first = ap (λ (x : Tally). x .first) e ∙ (first-all nothing ws refl ∙ zero-add (length (before ws)));
       again = ap (λ (x : Tally). x .again) e ∙ again-all nothing ws refl refl;
       plain = ap (λ (x : Tally). x .plain) e ∙ plain-all nothing ws;
@@ -178,20 +185,20 @@ module _ (w t : Text) (ws : Words) (n a e : ℕ) (v : Placed w t ws n) (x : IsWo
 
 -- the loop over the words of a line
 
-pub record Splitting (w t : Text) (n : Tally) (f i l : ℕ) : Type 0 where
+pub record Splitting (h : Bool) (w t : Text) (n : Tally) (f i l : ℕ) : Type 0 where
   pub high : i ≤ length w
   pub few : l ≤ i
   pub rest : drop (n .count) (wordsOf w) ≡ left w i
   pub within : n .count ≤ i
   pub below : n .first ≤ n .count
-  pub tally : tallies nothing (wordsOf w) ≡ tallies n (left w i)
+  pub tally : tallies h nothing (wordsOf w) ≡ tallies h n (left w i)
   pub fault : wordsFault (wordsOf w) ≡ lower f (wordsFault (left w i))
   pub placed : Placed w t (wordsOf w) (n .count)
   pub onto : ahead w 0 0 ≡ ahead w i l
 
-pub splitting-start : (w t : Text) → length t ≡ 20 → Splitting w t nothing 0 0 0
+pub splitting-start : (h : Bool) (w t : Text) → length t ≡ 20 → Splitting h w t nothing 0 0 0
 unfolding wordsOf
-splitting-start w t h =
+splitting-start h w t z =
     record {
       high = omega arith;
       few = omega arith;
@@ -200,28 +207,25 @@ splitting-start w t h =
       below = omega arith;
       tally = refl;
       fault = sym (lower-zero _);
-      placed = placed-none w t (left w 0) h;
+      placed = placed-none w t (left w 0) z;
       onto = refl;
     }
 
-first-low : (n : Tally) (w : Text) → n .first ≤ n .count → tallied n w .first ≤ tallied n w .count
-unfolding tallied
-first-low n w h = go (n .seen || isEquals w)
+first-low : (h : Bool) (n : Tally) (w : Text) → n .first ≤ n .count → counted h n w .first ≤ counted h n w .count
+unfolding counted tallied
+first-low true n w h = go (n .seen || isEquals w)
   where
     go : (b : Bool) → cond b (n .first) (n .first + 1) ≤ n .count + 1
     go true = omega arith
     go false = omega arith
+first-low false n w h = omega arith
 
-count-more : (n : Tally) (w : Text) → tallied n w .count ≡ n .count + 1
-unfolding tallied
-count-more n w = refl
-
-module _ (w t : Text) (n : Tally) (f i l : ℕ) (v : Splitting w t n f i l) where
+module _ (h : Bool) (w t : Text) (n : Tally) (f i l : ℕ) (v : Splitting h w t n f i l) where
   pub splitting-more : (a e m g : ℕ) (t′ : Text) (n′ : Tally) (f′ : ℕ) → FoundWord w i l a e m g →
-      t′ ≡ stored t (n .count) a e → n′ ≡ tallied n (part w a e) → f′ ≡ lower f g → Splitting w t′ n′ f′ e m
+      t′ ≡ stored t (n .count) a e → n′ ≡ counted h n (part w a e) → f′ ≡ lower f g → Splitting h w t′ n′ f′ e m
   splitting-more a e m g t′ n′ f′ u p q r =
       let d = drop-head (wordsOf w) (n .count) (part w a e) (left w e) (v .rest ∙ u .text) in
-      let c : n′ .count ≡ n .count + 1 = ap (λ (x : Tally). x .count) q ∙ count-more n (part w a e) in
+      let c : n′ .count ≡ n .count + 1 = ap (λ (x : Tally). x .count) q ∙ count-more h n (part w a e) in
       let x : IsWord w a e (getD (wordsOf w) (n .count) []) = record { low = omega (arith, u .some); high = u .high; text = sym (d .0) } in
       let y : Placed w t′ (wordsOf w) (n .count + 1) = placed-more w t (wordsOf w) (n .count) a e (v .placed) x t′ p in
       record {
@@ -229,21 +233,22 @@ module _ (w t : Text) (n : Tally) (f i l : ℕ) (v : Splitting w t n f i l) wher
         few = omega (arith, v .few, u .grow);
         rest = rw c (d .1);
         within = omega (arith, v .within, u .low, u .some, c);
-        below = rw q (first-low n (part w a e) (v .below));
+        below = rw q (first-low h n (part w a e) (v .below));
         tally = v .tally ∙ rw (u .text, tallies-cons, q);
         fault = v .fault ∙ rw (r, u .text, fault-cons, u .fault, lower-assoc);
         placed = rw c y;
         onto = v .onto ∙ u .onto;
       }
 
-  pub splitting-end : (p m : ℕ) → NoWord w i l p m → IsSplit w t (record { tally = n; fault = f; next = p; line = m })
+  pub splitting-end : (p m : ℕ) → NoWord w i l p m → IsSplit h w t (record { tally = n; fault = f; next = p; line = m })
   splitting-end p m u =
       let z : drop (n .count) (wordsOf w) ≡ [] = v .rest ∙ u .none in
-      let k : n ≡ tallies nothing (wordsOf w) = sym (v .tally ∙ rw (u .none, tallies-nil)) in
-      let c = tallied-all (wordsOf w) n k in
+      let k : n ≡ tallies h nothing (wordsOf w) = sym (v .tally ∙ rw (u .none, tallies-nil)) in
+      let c : n .count ≡ length (wordsOf w) = ap (λ (x : Tally). x .count) k ∙ (count-all h nothing (wordsOf w) ∙ zero-add (length (wordsOf w))) in
       record {
-        tally = c;
-        placed = rw (← c .count) (v .placed);
+        count = c;
+        tally = λ z. tallied-all (wordsOf w) n (rw z at k);
+        placed = rw (← c) (v .placed);
         fault = sym (v .fault ∙ rw (u .none, fault-nil, lower-none));
         onwards = omega (arith, v .within, u .onwards);
         high = u .high;

@@ -21,8 +21,8 @@ wordsOf w = left w 0
 abbrev pub mostPlaced : ℕ
 mostPlaced = 10
 
--- one word more: the words so far, those before the first `=`, whether it has been met, whether another was met after it, and whether all words
--- from the third on are ordinary
+-- one word more of a heading: the words so far, those before the first `=`, whether it has been met, whether another was met after it, and whether
+-- all words from the third on are ordinary
 unfoldable pub tallied : Tally → Text → Tally
 tallied t w =
     record {
@@ -33,7 +33,11 @@ tallied t w =
       plain = cond (ltb (t .count) 2) (t .plain) (t .plain && ordinary w);
     }
 
--- the tally of a line
+-- of any other line the words are only counted
+unfoldable pub counted : Bool → Tally → Text → Tally
+counted h t w = cond h (tallied t w) (record { count = t .count + 1; first = t .first; seen = t .seen; again = t .again; plain = t .plain })
+
+-- the tally of a heading
 pub record Tallied (ws : Words) (t : Tally) : Type 0 where
   pub count : t .count ≡ length ws
   pub first : t .first ≡ length (before ws)
@@ -55,9 +59,10 @@ pub record Placed (w t : Text) (ws : Words) (n : ℕ) : Type 0 where
   pub size : length t ≡ 2 * mostPlaced
   pub word : (j : ℕ) → j < mostPlaced → j < n → IsWord w (getD t (2 * j) 0) (getD t (2 * j + 1) 0) (getD ws j [])
 
--- what is known of a line once it is split; physical lines are counted from 0
-pub record IsSplit (w t : Text) (r : Split) : Type 0 where
-  pub tally : Tallied (wordsOf w) (r .tally)
+-- what is known of a line once it is split, a heading or any other; physical lines are counted from 0
+pub record IsSplit (h : Bool) (w t : Text) (r : Split) : Type 0 where
+  pub count : r .tally .count ≡ length (wordsOf w)
+  pub tally : h ≡ true → Tallied (wordsOf w) (r .tally)
   pub placed : Placed w t (wordsOf w) (length (wordsOf w))
   pub fault : r .fault ≡ wordsFault (wordsOf w)
   pub onwards : min 1 (length w) ≤ r .next

@@ -80,7 +80,7 @@ fn check_line(
     let o = open_line(s, t, start, p.line);
     let from = o.at;
     let w = &s[from..];
-    let l = split_line(w, t, fence_behind(fence, from), places);
+    let l = split_line(o.heading, w, t, fence_behind(fence, from), places);
     let at = from + l.next;
     let line = o.line + l.line;
     let present = p.present;

@@ -169,7 +169,7 @@ fn heading_kind(w: &[u8], places: &[usize], t: Tally) -> LineKind
 
 // A line by itself: its lowest refusal, or what it is.
 pub fn line_kind(heading: bool, w: &[u8], places: &[usize], l: Split) -> LineKind
-    requires { ⌜ IsSplit (now w) (now places) l ⌝ }
+    requires { ⌜ IsSplit heading (now w) (now places) l ⌝ }
     ensures { λ r. ⌜ IsKind (wordsOf (now (w .entry))) (entryOf (lineOf 0 heading (wordsOf (now (w .entry))))) r ⌝ }
 {
     let f = l.fault;

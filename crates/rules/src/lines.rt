@@ -6,7 +6,7 @@ ghost use lib.Dec.{ltb};
 ghost use lib.ListN.{length};
 ghost use Rattle.text.specs.Reading.{Table, Fenced};
 ghost use Rattle.rules.specs.Words.{ordinary};
-ghost use Rattle.rules.specs.Splitting.{tallied, stored, IsSplit};
+ghost use Rattle.rules.specs.Splitting.{tallied, counted, stored, IsSplit};
 use super::Split;
 use super::Tally;
 use super::words::is_equals;
@@ -80,10 +80,33 @@ fn store(places: &mut [usize], k: usize, start: usize, end: usize)
     }
 }
 
+// One word more of a heading, or of any other line.
+fn count_word(heading: bool, t: Tally, w: &[u8]) -> Tally
+    requires { ⌜ (t .count + 1 < 2 ^ 64) × (t .first + 1 < 2 ^ 64) ⌝ }
+    ensures { λ r. ⌜ r ≡ counted heading t (now (w .entry)) ⌝ }
+{
+    if heading {
+        return add_word(t, w);
+    }
+    Tally {
+        count: t.count + 1,
+        first: t.first,
+        seen: t.seen,
+        again: t.again,
+        plain: t.plain,
+    }
+}
+
 // The line is lent from where its first word may begin: after a heading's mark, or at the first byte that is no blank.
-pub fn split_line(w: &[u8], t: &[u8; 512], fence: usize, places: &mut [usize]) -> Split
+pub fn split_line(
+    heading: bool,
+    w: &[u8],
+    t: &[u8; 512],
+    fence: usize,
+    places: &mut [usize],
+) -> Split
     requires { ⌜ Table (now t) × Fenced (now w) fence × (length (now places) ≡ 20) ⌝ }
-    ensures { λ r. ⌜ IsSplit (now (w .entry)) (now (places .exit)) r ⌝ }
+    ensures { λ r. ⌜ IsSplit heading (now (w .entry)) (now (places .exit)) r ⌝ }
 {
     let mut n = Tally {
         count: 0,
@@ -104,7 +127,7 @@ pub fn split_line(w: &[u8], t: &[u8; 512], fence: usize, places: &mut [usize]) -
                 fault,
             } => {
                 store(places, n.count, start, end);
-                n = add_word(n, &w[start..end]);
+                n = count_word(heading, n, &w[start..end]);
                 f = lower(f, fault);
                 i = end;
                 l = line;

@@ -77,7 +77,7 @@ enum-told-3 : tie.Need-enum-told-3
 enum-told-3 c = search needs
 
 rule-fault-requires : tie.Need-rule-fault-requires
-rule-fault-requires c κs = (c .before .before .before .before .before .before .before .before .before .before .before .split-line .ensures .placed, c .before .before .before .before .before .before .before .before .before .before .before .split-line .ensures .tally .count, c .before .before .before .before .before .before .before .before .before .before .before .before .before .before .before .before .before .before .pre .3 .left, c .before .before .before .before .before .before .before .before .before .before .before .before .before .before .before .before .before .before .pre .3 .right)
+rule-fault-requires c κs = (c .before .before .before .before .before .before .before .before .before .before .before .split-line .ensures .placed, c .before .before .before .before .before .before .before .before .before .before .before .split-line .ensures .count, c .before .before .before .before .before .before .before .before .before .before .before .before .before .before .before .before .before .before .pre .3 .left, c .before .before .before .before .before .before .before .before .before .before .before .before .before .before .before .before .before .before .pre .3 .right)
 
 same-length : tie.Need-same-length
 same-length c = search needs

@@ -8,19 +8,19 @@ use Rattle.text.proofs.Readers.{found, stopped}
 use Rattle.rules.proofs.Splits.{Splitting, splitting-start, splitting-more, splitting-end}
 use Rattle.rules.proofs.lines.split_line.Statement.{statement}
 use Rattle.rules.proofs.lines.split_line.Tie as tie
-use Rattle.rules.proofs.lines.add_word.Reads as add-word-reads
+use Rattle.rules.proofs.lines.count_word.Reads as count-word-reads
 use Rattle.rules.proofs.lines.store.Reads as store-reads
 use Rattle.text.proofs.bytes.lower.Reads as lower-reads
 use Rattle.text.proofs.reader.next_word.Reads as next-word-reads
 
 abbrev Inv-loop : tie.InvT-loop
-Inv-loop w t fence places₀ n₀ f₀ i₀ l₀ places n f i l = Splitting w places n f i l
+Inv-loop heading w t fence places₀ n₀ f₀ i₀ l₀ places n f i l = Splitting heading w places n f i l
 
 abbrev μ-loop : tie.MeasureT-loop
-μ-loop w t fence places₀ n₀ f₀ i₀ l₀ places n f i l = length w - i
+μ-loop heading w t fence places₀ n₀ f₀ i₀ l₀ places n f i l = length w - i
 
 loop-holds : tie.Need-loop-holds Inv-loop μ-loop
-loop-holds c = splitting-start _ _ (c .before .before .pre .2)
+loop-holds c = splitting-start _ _ _ (c .before .before .pre .2)
 
 next-word-requires : tie.Need-next-word-requires Inv-loop μ-loop
 next-word-requires c κs = search needs
@@ -31,17 +31,17 @@ enum-known-start c = search needs
 store-requires : tie.Need-store-requires Inv-loop μ-loop
 store-requires c κs = search needs
 
-sub-add-word : tie.Need-sub-add-word Inv-loop μ-loop
-sub-add-word c = let u = found _ _ _ _ _ _ _ _ (c .before .before .before .before .before .start .given .1) (c .before .before .before .before .before .before .before .next-word .ensures) in omega (arith, u .some)
+sub-count-word : tie.Need-sub-count-word Inv-loop μ-loop
+sub-count-word c = let u = found _ _ _ _ _ _ _ _ (c .before .before .before .before .before .start .given .1) (c .before .before .before .before .before .before .before .next-word .ensures) in omega (arith, u .some)
 
-part-add-word-start : tie.Need-part-add-word-start Inv-loop μ-loop
-part-add-word-start c = let u = found _ _ _ _ _ _ _ _ (c .before .before .before .before .before .start .given .1) (c .before .before .before .before .before .before .before .next-word .ensures) in omega (arith, u .some)
+part-count-word-start : tie.Need-part-count-word-start Inv-loop μ-loop
+part-count-word-start c = let u = found _ _ _ _ _ _ _ _ (c .before .before .before .before .before .start .given .1) (c .before .before .before .before .before .before .before .next-word .ensures) in omega (arith, u .some)
 
-part-add-word-end : tie.Need-part-add-word-end Inv-loop μ-loop
-part-add-word-end c = let u = found _ _ _ _ _ _ _ _ (c .before .before .before .before .before .start .given .1) (c .before .before .before .before .before .before .before .next-word .ensures) in u .high
+part-count-word-end : tie.Need-part-count-word-end Inv-loop μ-loop
+part-count-word-end c = let u = found _ _ _ _ _ _ _ _ (c .before .before .before .before .before .start .given .1) (c .before .before .before .before .before .before .before .next-word .ensures) in u .high
 
-add-word-requires : tie.Need-add-word-requires Inv-loop μ-loop
-add-word-requires c κs = search needs
+count-word-requires : tie.Need-count-word-requires Inv-loop μ-loop
+count-word-requires c κs = search needs
 
 lower-requires : tie.Need-lower-requires Inv-loop μ-loop
 lower-requires c κs = search needs
@@ -51,7 +51,7 @@ loop-less c = let u = found _ _ _ _ _ _ _ _ (c .before .before .before .before .
 
 loop-again : tie.Need-loop-again Inv-loop μ-loop
 unfolding part
-loop-again c = splitting-more _ _ _ _ _ _ (c .before .before .before .before .before .before .before .before .before .before .before .loop .inv) _ _ _ _ _ _ _ (found _ _ _ _ _ _ _ _ (c .before .before .before .before .before .before .before .before .start .given .1) (c .before .before .before .before .before .before .before .before .before .before .next-word .ensures)) (c .before .before .before .before .before .store .ensures) (c .before .add-word .ensures) (c .lower .ensures)
+loop-again c = splitting-more _ _ _ _ _ _ _ (c .before .before .before .before .before .before .before .before .before .before .before .loop .inv) _ _ _ _ _ _ _ (found _ _ _ _ _ _ _ _ (c .before .before .before .before .before .before .before .before .start .given .1) (c .before .before .before .before .before .before .before .before .before .before .next-word .ensures)) (c .before .before .before .before .before .store .ensures) (c .before .count-word .ensures) (c .lower .ensures)
 
 enum-known-next : tie.Need-enum-known-next Inv-loop μ-loop
 enum-known-next c = search needs
@@ -60,7 +60,7 @@ same-length : tie.Need-same-length Inv-loop μ-loop
 same-length c = search needs
 
 returns : tie.Need-returns Inv-loop μ-loop
-returns c = splitting-end _ _ _ _ _ _ (c .before .before .before .before .loop .inv) _ _ (stopped _ _ _ _ _ _ (c .before .next .given .1) (c .before .before .before .next-word .ensures))
+returns c = splitting-end _ _ _ _ _ _ _ (c .before .before .before .before .loop .inv) _ _ (stopped _ _ _ _ _ _ (c .before .next .given .1) (c .before .before .before .next-word .ensures))
 
 pub split-line-spec : {M : Type 1} → statement M
 split-line-spec =
@@ -72,10 +72,10 @@ split-line-spec =
     next-word-requires
     enum-known-start
     store-requires
-    sub-add-word
-    part-add-word-start
-    part-add-word-end
-    add-word-requires
+    sub-count-word
+    part-count-word-start
+    part-count-word-end
+    count-word-requires
     lower-requires
     loop-less
     loop-again
