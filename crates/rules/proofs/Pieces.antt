@@ -263,3 +263,28 @@ module _ (x : Bool) (w : Text) where
         pub sound-good : (b : Bool) → b ≡ Percent.badPiece x p → b ≡ false → (k : ℕ) → k ≡ Percent.pieceLength p → Sound x w (i + 1 + k)
         sound-good b a t k l =
             record { high = item-fits k l; rest = s .rest ∙ item-step ∙ rw (← a, t, ← l) }
+
+-- four bytes a turn
+
+pub plain-sound : (w : Text) (i : ℕ) → Percent.PlainTo w i → (x : Bool) → Sound x w i
+plain-sound w i v x = record { high = v .high; rest = v .rest x }
+
+pub plain-start : (w : Text) → Percent.PlainTo w 0
+plain-start w = record { high = omega arith; rest = λ x. refl }
+
+pub plain-four : (w : Text) (i : ℕ) → Percent.PlainTo w i → 4 ≤ length w - i → (getD w i 0 ≡ 37 → ⊥) → (getD w (i + 1) 0 ≡ 37 → ⊥) →
+    (getD w (i + 2) 0 ≡ 37 → ⊥) → (getD w (i + 3) 0 ≡ 37 → ⊥) → Percent.PlainTo w (i + 4)
+plain-four w i v l a b c d =
+    let h : i + 4 ≤ length w = omega arith in
+    record {
+      high = h;
+      rest = λ x.
+          let s₁ = sound-byte x w i (plain-sound w i v x) (omega arith) a in
+          let s₂ = sound-byte x w (i + 1) s₁ (omega arith) b in
+          let e₂ : i + 1 + 1 ≡ i + 2 = omega arith in
+          let s₃ = sound-byte x w (i + 2) (rw e₂ at s₂) (omega arith) c in
+          let e₃ : i + 2 + 1 ≡ i + 3 = omega arith in
+          let s₄ = sound-byte x w (i + 3) (rw e₃ at s₃) (omega arith) d in
+          let e₄ : i + 3 + 1 ≡ i + 4 = omega arith in
+          (rw e₄ at s₄) .rest;
+    }

@@ -1,8 +1,9 @@
 -- A right-hand value as pieces. Document 01, "Right-hand values", its first paragraph.
-use Prim.Native.Nat.{ℕ, zero, suc, _+_, _-_}
+use Prim.Native.Nat.{ℕ, zero, suc, _+_, _-_, _≤_}
+use mathlib.Core.Path.{_≡_}
 use mathlib.Core.List.{List, [], _∷_}
 use mathlib.Core.Bool.{Bool, true, false, not, _||_, _&&_, cond}
-use lib.ListN.{getD, drop}
+use lib.ListN.{length, getD, drop}
 use lib.Dec.{eqb, leb}
 use Rattle.text.specs.Limits.{mostLayouts}
 use Rattle.text.specs.Bytes.{Text, anyOf}
@@ -98,3 +99,8 @@ badPiece i Unclosed = true
 
 unfoldable pub malformed : Bool → Text → Bool
 malformed i t = anyOf (badPiece i) (pieces zero t)
+
+-- no percent sign stands before r: what follows decides
+pub record PlainTo (t : Text) (r : ℕ) : Type 0 where
+  pub high : r ≤ length t
+  pub rest : (i : Bool) → malformed i t ≡ malformed i (drop r t)

@@ -1,7 +1,7 @@
 // What follows a percent sign in a right-hand value, and whether a value is malformed.
 ghost use mathlib.Core.Path.{_≡_};
 ghost use lib.ListN.{drop, getD};
-ghost use Rattle.rules.specs.Percent.{whichOf, variableOf, whichLength, variableLength, inParens, pieceAfter, pieceLength};
+ghost use Rattle.rules.specs.Percent.{whichOf, variableOf, whichLength, variableLength, inParens, pieceAfter, pieceLength, PlainTo};
 ghost use Rattle.rules.specs.Percent.{badWhich, badVariable, badPiece, malformed};
 use super::Piece;
 use super::Variable;
@@ -181,11 +181,34 @@ pub fn bad_piece(indexed: bool, p: Piece) -> bool
     }
 }
 
+// A place up to which no percent sign stands: four bytes a turn.
+fn skip_plain(w: &[u8]) -> usize
+    ensures { λ r. ⌜ PlainTo (now (w .entry)) r ⌝ }
+{
+    let mut i: usize = 0;
+    while 4 <= w.len() - i {
+        if w[i] == b'%' {
+            return i;
+        }
+        if w[i + 1] == b'%' {
+            return i;
+        }
+        if w[i + 2] == b'%' {
+            return i;
+        }
+        if w[i + 3] == b'%' {
+            return i;
+        }
+        i += 4;
+    }
+    i
+}
+
 // Whether a right-hand value is malformed.
 pub fn is_malformed(w: &[u8], indexed: bool) -> bool
     ensures { λ r. ⌜ r ≡ malformed indexed (now (w .entry)) ⌝ }
 {
-    let mut i: usize = 0;
+    let mut i = skip_plain(w);
     while i < w.len() {
         if w[i] != b'%' {
             i += 1;

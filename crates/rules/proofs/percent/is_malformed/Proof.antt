@@ -2,9 +2,13 @@ use borrow.Author.Needs.{needs}
 use Prim.Native.Nat.{_-_}
 use native.Mathlib.Omega.{arith}
 use lib.ListN.{length}
-use Rattle.rules.proofs.Pieces.{Sound, sound-start, sound-end, sound-byte, item-fits, sound-bad, sound-good}
+use Rattle.rules.proofs.Pieces.{Sound, sound-end, sound-byte, item-fits, sound-bad, sound-good, plain-sound}
 use Rattle.rules.proofs.percent.is_malformed.Statement.{statement}
 use Rattle.rules.proofs.percent.is_malformed.Tie as tie
+use Rattle.rules.proofs.percent.bad_piece.Reads as bad-piece-reads
+use Rattle.rules.proofs.percent.piece_after.Reads as piece-after-reads
+use Rattle.rules.proofs.percent.piece_length.Reads as piece-length-reads
+use Rattle.rules.proofs.percent.skip_plain.Reads as skip-plain-reads
 
 abbrev Inv-loop : tie.InvT-loop
 Inv-loop w indexed i₀ i = Sound indexed w i
@@ -12,8 +16,11 @@ Inv-loop w indexed i₀ i = Sound indexed w i
 abbrev μ-loop : tie.MeasureT-loop
 μ-loop w indexed i₀ i = length w - i
 
+skip-plain-requires : tie.Need-skip-plain-requires Inv-loop μ-loop
+skip-plain-requires c κs = search needs
+
 loop-holds : tie.Need-loop-holds Inv-loop μ-loop
-loop-holds c = sound-start _ _
+loop-holds c = plain-sound _ _ (c .skip-plain .ensures) _
 
 shared-slice-read-if1 : tie.Need-shared-slice-read-if1 Inv-loop μ-loop
 shared-slice-read-if1 c = search needs
@@ -60,6 +67,7 @@ is-malformed-spec =
     (tie.spec
     Inv-loop
     μ-loop
+    skip-plain-requires
     loop-holds
     shared-slice-read-if1
     add-i
