@@ -10,7 +10,7 @@ use Rattle.rules.specs.declared.Present.{Present}
 use Rattle.rules.specs.Words.{isEquals, ordinary, leftWord}
 use Rattle.rules.specs.Percent.{malformed}
 use Rattle.rules.specs.Faults.{ruleShape, shapeFault}
-use Rattle.rules.specs.Checking.{presentFault}
+use Rattle.rules.specs.Checking.{rightFault, presentFault}
 
 module _ (p : Present) (ws : Words) where
   pub fault-none : p .begun ≡ false → 6 ≡ presentFault p ws
@@ -36,15 +36,6 @@ module _ (p : Present) (ws : Words) where
         fault-equals q = rw (h, eq-eqb _ _ long, l, q)
 
         module _ (q : isEquals (getD ws (p .left) []) ≡ true) where
-          pub fault-right : allOf ordinary (drop (p .left + 1) ws) ≡ false → 6 ≡ presentFault p ws
-          unfolding presentFault shapeFault ruleShape
-          fault-right r = rw (h, eq-eqb _ _ long, l, q, r)
-
-          module _ (r : allOf ordinary (drop (p .left + 1) ws) ≡ true) where
-            pub fault-percent : anyOf (malformed (p .indexed)) (drop (p .left + 1) ws) ≡ true → 8 ≡ presentFault p ws
-            unfolding presentFault shapeFault ruleShape
-            fault-percent m = rw (h, eq-eqb _ _ long, l, q, r, m)
-
-            pub fault-fine : anyOf (malformed (p .indexed)) (drop (p .left + 1) ws) ≡ false → 0 ≡ presentFault p ws
-            unfolding presentFault shapeFault ruleShape
-            fault-fine m = rw (h, eq-eqb _ _ long, l, q, r, m)
+          pub fault-right : (r : ℕ) → r ≡ rightFault (p .indexed) (drop (p .left + 1) ws) → r ≡ presentFault p ws
+          unfolding presentFault shapeFault ruleShape rightFault
+          fault-right r e = e ∙ rw (h, eq-eqb _ _ long, l, q)

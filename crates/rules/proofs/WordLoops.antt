@@ -4,10 +4,13 @@ use native.Mathlib.Omega.{arith}
 use native.Mathlib.Numerals.{add-one}
 use mathlib.Core.Path.{_≡_, refl, sym, ap, _∙_}
 use mathlib.Core.List.{List, [], _∷_}
-use mathlib.Core.Bool.{Bool, true, false, _||_, _&&_}
+use mathlib.Core.Bool.{Bool, true, false, _||_, _&&_, or-assoc}
 use lib.ListN.{length, getD, take, drop, drop-of-length-le}
 use lib.Seq.{drop-cons}
 use Rattle.text.specs.Bytes.{Text, Words, allOf, anyOf}
+use Rattle.rules.specs.Words.{ordinary}
+use Rattle.rules.specs.Percent.{malformed}
+use Rattle.rules.specs.Checking.{rightFault}
 
 words-at : (ws : Words) (j : ℕ) → j < length ws → drop j ws ≡ getD ws j [] ∷ drop (j + 1) ws
 words-at ws j h = rw add-one (drop-cons ws j [] h)
@@ -53,39 +56,44 @@ module _ (q : Text → Bool) (ws : Words) (n : ℕ) where
     pub upto-end : n ≤ j → true ≡ allOf q (take n ws)
     upto-end h = let e : n - j ≡ 0 = omega arith in sym (v .rest ∙ rw e (all-none q))
 
--- the words from j on are still to be looked at
-pub record AllFrom (q : Text → Bool) (ws : Words) (from j : ℕ) : Type 0 where
+-- the right words from j on are still to be looked at; `bad`: one of those before is malformed
+pub record RightFrom (i : Bool) (ws : Words) (from j : ℕ) (bad : Bool) : Type 0 where
   pub high : j ≤ length ws
-  pub rest : allOf q (drop from ws) ≡ allOf q (drop j ws)
+  pub plain : allOf ordinary (drop from ws) ≡ allOf ordinary (drop j ws)
+  pub percent : anyOf (malformed i) (drop from ws) ≡ (bad || anyOf (malformed i) (drop j ws))
 
-module _ (q : Text → Bool) (ws : Words) (from : ℕ) where
-  pub from-start : from ≤ length ws → AllFrom q ws from from
-  from-start h = record { high = h; rest = refl }
+or-none : (b : Bool) → (b || false) ≡ b
+or-none true = refl
+or-none false = refl
 
-  module _ (j : ℕ) (v : AllFrom q ws from j) where
-    pub from-more : j < length ws → q (getD ws j []) ≡ true → AllFrom q ws from (j + 1)
-    from-more h e = record { high = omega arith; rest = v .rest ∙ rw (words-at ws j h, all-cons, e) }
+module _ (i : Bool) (ws : Words) (from : ℕ) where
+  pub right-start : from ≤ length ws → RightFrom i ws from from false
+  right-start h = record { high = h; plain = refl; percent = refl }
 
-    pub from-miss : j < length ws → q (getD ws j []) ≡ false → false ≡ allOf q (drop from ws)
-    from-miss h e = sym (v .rest ∙ rw (words-at ws j h, all-cons, e))
+  module _ (j : ℕ) (bad : Bool) (v : RightFrom i ws from j bad) where
+    pub right-odd : j < length ws → ordinary (getD ws j []) ≡ false → 6 ≡ rightFault i (drop from ws)
+    unfolding rightFault
+    right-odd h e = let p : allOf ordinary (drop from ws) ≡ false = v .plain ∙ rw (words-at ws j h, all-cons, e) in rw p
 
-    pub from-end : length ws ≤ j → true ≡ allOf q (drop from ws)
-    from-end h = sym (v .rest ∙ rw (drop-of-length-le ws h, all-none))
+    pub right-more : (b : Bool) → j < length ws → ordinary (getD ws j []) ≡ true → b ≡ (bad || malformed i (getD ws j [])) → RightFrom i ws from (j + 1) b
+    right-more b h e m =
+        record {
+          high = omega arith;
+          plain = v .plain ∙ rw (words-at ws j h, all-cons, e);
+          percent = v .percent ∙ rw (words-at ws j h, any-cons, m) (sym (or-assoc bad (malformed i (getD ws j [])) (anyOf (malformed i) (drop (j + 1) ws))));
+        }
 
-pub record AnyFrom (q : Text → Bool) (ws : Words) (from j : ℕ) : Type 0 where
-  pub high : j ≤ length ws
-  pub rest : anyOf q (drop from ws) ≡ anyOf q (drop j ws)
+    module _ (h : length ws ≤ j) where
+      all-plain : allOf ordinary (drop from ws) ≡ true
+      all-plain = v .plain ∙ rw (drop-of-length-le ws h, all-none)
 
-module _ (q : Text → Bool) (ws : Words) (from : ℕ) where
-  pub any-start : from ≤ length ws → AnyFrom q ws from from
-  any-start h = record { high = h; rest = refl }
+      any-bad : anyOf (malformed i) (drop from ws) ≡ bad
+      any-bad = v .percent ∙ rw (drop-of-length-le ws h, any-none) (or-none bad)
 
-  module _ (j : ℕ) (v : AnyFrom q ws from j) where
-    pub any-more : j < length ws → q (getD ws j []) ≡ false → AnyFrom q ws from (j + 1)
-    any-more h e = record { high = omega arith; rest = v .rest ∙ rw (words-at ws j h, any-cons, e) }
+      pub right-bad : bad ≡ true → 8 ≡ rightFault i (drop from ws)
+      unfolding rightFault
+      right-bad e = rw (all-plain, any-bad, e)
 
-    pub any-hit : j < length ws → q (getD ws j []) ≡ true → true ≡ anyOf q (drop from ws)
-    any-hit h e = sym (v .rest ∙ rw (words-at ws j h, any-cons, e))
-
-    pub any-end : length ws ≤ j → false ≡ anyOf q (drop from ws)
-    any-end h = sym (v .rest ∙ rw (drop-of-length-le ws h, any-none))
+      pub right-fine : bad ≡ false → 0 ≡ rightFault i (drop from ws)
+      unfolding rightFault
+      right-fine e = rw (all-plain, any-bad, e)

@@ -7,7 +7,7 @@ use lib.ListN.{length, getD, drop}
 use lib.Dec.{leb}
 use Rattle.text.specs.declared.Refusal.{Refusal}
 use Rattle.text.specs.Limits.{mostGroups}
-use Rattle.text.specs.Bytes.{Text, Words, same, rest, anyOf, part}
+use Rattle.text.specs.Bytes.{Text, Words, same, rest, allOf, anyOf, part}
 use Rattle.text.specs.Refusals.{refusedAs, firstRefusal}
 use Rattle.text.specs.Lines.{Line}
 use Rattle.text.specs.Reading.{follow}
@@ -16,7 +16,8 @@ use Rattle.rules.specs.declared.LineKind.{LineKind}
 use Rattle.rules.specs.declared.LineKind.the-variants as kind
 use Rattle.rules.specs.declared.Progress.{Progress}
 use Rattle.rules.specs.declared.Checked.{Checked}
-use Rattle.rules.specs.Words.{isGroupName}
+use Rattle.rules.specs.Words.{isGroupName, ordinary}
+use Rattle.rules.specs.Percent.{malformed}
 use Rattle.rules.specs.Headings.{Heading, hasWord}
 use Rattle.rules.specs.Entries.{Entry, ignored, wrong, group, set, rule, entryOf}
 use Rattle.rules.specs.Faults.{shapeFault, fileRefusals}
@@ -30,6 +31,10 @@ noHeading = record { begun = false; left = 0; right = 0; indexed = false }
 
 unfoldable pub presentOf : Heading → Present
 presentOf h = record { begun = true; left = length (h .columns); right = length (h .components); indexed = hasWord (h .index) }
+
+-- a rule's right words
+unfoldable pub rightFault : Bool → Words → ℕ
+rightFault i ws = cond (allOf ordinary ws) (cond (anyOf (malformed i) ws) 8 0) 6
 
 -- a rule under the present heading
 unfoldable pub presentFault : Present → Words → ℕ

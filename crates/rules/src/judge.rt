@@ -1,13 +1,13 @@
 // What a split line is, and what a rule's words are held to.
 ghost use mathlib.Core.Path.{_≡_};
-ghost use mathlib.Core.Bool.{cond, true};
+ghost use mathlib.Core.Bool.{_||_};
 ghost use Prim.Native.Nat.{_≤_, _<_, _+_};
 ghost use lib.ListN.{length, getD, take, drop};
 ghost use mathlib.Core.List.{[]};
-ghost use Rattle.text.specs.Bytes.{allOf, anyOf};
-ghost use Rattle.rules.specs.Words.{leftWord, ordinary};
+ghost use Rattle.text.specs.Bytes.{allOf};
+ghost use Rattle.rules.specs.Words.{leftWord};
 ghost use Rattle.rules.specs.Percent.{malformed};
-ghost use Rattle.rules.specs.Faults.{shapeFault};
+ghost use Rattle.rules.specs.Checking.{rightFault};
 ghost use Rattle.rules.specs.Entries.{groupEntry, setEntry, headingEntry, entryOf};
 ghost use Rattle.rules.specs.Checking.{presentFault, IsKind, lineOf};
 ghost use Rattle.rules.specs.Splitting.{wordsOf, Placed, Tallied, IsSplit};
@@ -41,34 +41,34 @@ fn left_words(w: &[u8], places: &[usize], n: usize) -> bool
     true
 }
 
-// The words from a number on are ordinary.
-fn right_words(w: &[u8], places: &[usize], from: usize, count: usize) -> bool
-    requires { ⌜ Placed (now w) (now places) (wordsOf (now w)) (length (wordsOf (now w))) × (from ≤ count) × (count ≤ 10) × (count ≡ length (wordsOf (now w))) ⌝ }
-    ensures { λ r. ⌜ r ≡ allOf ordinary (drop from (wordsOf (now (w .entry)))) ⌝ }
+fn or_malformed(bad: bool, w: &[u8], indexed: bool) -> bool
+    ensures { λ r. ⌜ r ≡ (bad || malformed indexed (now (w .entry))) ⌝ }
 {
-    let mut j = from;
-    while j < count {
-        if !is_ordinary(word(w, places, j)) {
-            return false;
-        }
-        j += 1;
+    if bad {
+        return true;
     }
-    true
+    is_malformed(w, indexed)
 }
 
-// One of the words from a number on has a malformed percent item.
-fn any_malformed(w: &[u8], places: &[usize], from: usize, count: usize, indexed: bool) -> bool
+// The refusal of a rule's right words, from a number on: 6 where one is not ordinary, else 8 where one has a malformed percent item, or 0.
+fn right_fault(w: &[u8], places: &[usize], from: usize, count: usize, indexed: bool) -> usize
     requires { ⌜ Placed (now w) (now places) (wordsOf (now w)) (length (wordsOf (now w))) × (from ≤ count) × (count ≤ 10) × (count ≡ length (wordsOf (now w))) ⌝ }
-    ensures { λ r. ⌜ r ≡ anyOf (malformed indexed) (drop from (wordsOf (now (w .entry)))) ⌝ }
+    ensures { λ r. ⌜ r ≡ rightFault indexed (drop from (wordsOf (now (w .entry)))) ⌝ }
 {
+    let mut bad = false;
     let mut j = from;
     while j < count {
-        if is_malformed(word(w, places, j), indexed) {
-            return true;
+        let x = word(w, places, j);
+        if !is_ordinary(x) {
+            return 6;
         }
+        bad = or_malformed(bad, x, indexed);
         j += 1;
     }
-    false
+    if bad {
+        return 8;
+    }
+    0
 }
 
 // The refusal of a rule under the present heading, 6 or 8, or 0.
@@ -89,13 +89,7 @@ pub fn rule_fault(w: &[u8], places: &[usize], count: usize, p: Present) -> usize
     if !is_equals(word(w, places, n)) {
         return 6;
     }
-    if !right_words(w, places, n + 1, count) {
-        return 6;
-    }
-    if any_malformed(w, places, n + 1, count, p.indexed) {
-        return 8;
-    }
-    0
+    right_fault(w, places, n + 1, count, p.indexed)
 }
 
 // A heading that begins with a `$` word: a group line, or 6.

@@ -3,13 +3,12 @@ use native.Mathlib.Omega.{arith}
 use mathlib.Core.Path.{_≡_, sym, ap, _∙_}
 use borrow.Author.Tests.{not-true, not-false}
 use Rattle.rules.specs.Words.{isEquals}
-use Rattle.rules.proofs.RuleFaults.{fault-none, fault-count, fault-left, fault-equals, fault-right, fault-percent, fault-fine}
+use Rattle.rules.proofs.RuleFaults.{fault-none, fault-count, fault-left, fault-equals, fault-right}
 use borrow.Author.Needs.{needs}
 use Rattle.rules.proofs.judge.rule_fault.Statement.{statement}
 use Rattle.rules.proofs.judge.rule_fault.Tie as tie
-use Rattle.rules.proofs.judge.any_malformed.Reads as any-malformed-reads
 use Rattle.rules.proofs.judge.left_words.Reads as left-words-reads
-use Rattle.rules.proofs.judge.right_words.Reads as right-words-reads
+use Rattle.rules.proofs.judge.right_fault.Reads as right-fault-reads
 use Rattle.rules.proofs.sets.word.Reads as word-reads
 use Rattle.rules.proofs.words.is_equals.Reads as is-equals-reads
 
@@ -40,26 +39,14 @@ is-equals-requires c κs = search needs
 returns-4 : tie.Need-returns-4
 returns-4 c = fault-equals _ _ (not-false _ (c .before .before .before .before .before .before .before .if1 .left)) _ (c .before .before .before .before .before .before .before .before .before .before .before .pre .1) (c .before .before .before .before .before .if2 .left) (sym (c .before .before .before .before .left-words .ensures) ∙ not-false _ (c .before .before .before .if3 .left)) (ap isEquals (sym (c .before .before .word .ensures)) ∙ (sym (c .before .is-equals .ensures) ∙ not-true _ (c .if4 .taken)))
 
-add-right-words : tie.Need-add-right-words
-add-right-words c = search needs
+add-right-fault : tie.Need-add-right-fault
+add-right-fault c = search needs
 
-right-words-requires : tie.Need-right-words-requires
-right-words-requires c κs = search needs
+right-fault-requires : tie.Need-right-fault-requires
+right-fault-requires c κs = search needs
 
 returns-5 : tie.Need-returns-5
-returns-5 c = fault-right _ _ (not-false _ (c .before .before .before .before .before .before .before .before .before .if1 .left)) _ (c .before .before .before .before .before .before .before .before .before .before .before .before .before .pre .1) (c .before .before .before .before .before .before .before .if2 .left) (sym (c .before .before .before .before .before .before .left-words .ensures) ∙ not-false _ (c .before .before .before .before .before .if3 .left)) (ap isEquals (sym (c .before .before .before .before .word .ensures)) ∙ (sym (c .before .before .before .is-equals .ensures) ∙ not-false _ (c .before .before .if4 .left))) (sym (c .before .right-words .ensures) ∙ not-true _ (c .if5 .taken))
-
-add-any-malformed : tie.Need-add-any-malformed
-add-any-malformed c = search needs
-
-any-malformed-requires : tie.Need-any-malformed-requires
-any-malformed-requires c κs = search needs
-
-returns-6 : tie.Need-returns-6
-returns-6 c = fault-percent _ _ (not-false _ (c .before .before .before .before .before .before .before .before .before .before .before .if1 .left)) _ (c .before .before .before .before .before .before .before .before .before .before .before .before .before .before .before .pre .1) (c .before .before .before .before .before .before .before .before .before .if2 .left) (sym (c .before .before .before .before .before .before .before .before .left-words .ensures) ∙ not-false _ (c .before .before .before .before .before .before .before .if3 .left)) (ap isEquals (sym (c .before .before .before .before .before .before .word .ensures)) ∙ (sym (c .before .before .before .before .before .is-equals .ensures) ∙ not-false _ (c .before .before .before .before .if4 .left))) (sym (c .before .before .before .right-words .ensures) ∙ not-false _ (c .before .before .if5 .left)) (sym (c .before .any-malformed .ensures) ∙ c .if6 .taken)
-
-returns-7 : tie.Need-returns-7
-returns-7 c = fault-fine _ _ (not-false _ (c .before .before .before .before .before .before .before .before .before .before .before .if1 .left)) _ (c .before .before .before .before .before .before .before .before .before .before .before .before .before .before .before .pre .1) (c .before .before .before .before .before .before .before .before .before .if2 .left) (sym (c .before .before .before .before .before .before .before .before .left-words .ensures) ∙ not-false _ (c .before .before .before .before .before .before .before .if3 .left)) (ap isEquals (sym (c .before .before .before .before .before .before .word .ensures)) ∙ (sym (c .before .before .before .before .before .is-equals .ensures) ∙ not-false _ (c .before .before .before .before .if4 .left))) (sym (c .before .before .before .right-words .ensures) ∙ not-false _ (c .before .before .if5 .left)) (sym (c .before .any-malformed .ensures) ∙ c .if6 .left)
+returns-5 c = fault-right _ _ (not-false _ (c .before .before .before .before .before .before .before .before .if1 .left)) _ (c .before .before .before .before .before .before .before .before .before .before .before .before .pre .1) (c .before .before .before .before .before .before .if2 .left) (sym (c .before .before .before .before .before .left-words .ensures) ∙ not-false _ (c .before .before .before .before .if3 .left)) (ap isEquals (sym (c .before .before .before .word .ensures)) ∙ (sym (c .before .before .is-equals .ensures) ∙ not-false _ (c .before .if4 .left))) _ (c .right-fault .ensures)
 
 pub rule-fault-spec : {M : Type 1} → statement M
 rule-fault-spec =
@@ -74,10 +61,6 @@ rule-fault-spec =
     word-requires
     is-equals-requires
     returns-4
-    add-right-words
-    right-words-requires
-    returns-5
-    add-any-malformed
-    any-malformed-requires
-    returns-6
-    returns-7)
+    add-right-fault
+    right-fault-requires
+    returns-5)
