@@ -1,1 +1,4 @@
 pub mod Values
+pub mod Writes
+pub mod Cuts
+pub mod Copying

@@ -1,0 +1,47 @@
+use borrow.Author.Needs.{needs}
+use Prim.Native.Nat.{_+_, _-_}
+use native.Mathlib.Omega.{arith}
+use Rattle.values.proofs.Copying.{Copying, copying-start, copying-more, copying-end}
+use Rattle.values.proofs.spread.put_copies.Statement.{statement}
+use Rattle.values.proofs.spread.put_copies.Tie as tie
+
+abbrev Inv-loop : tie.InvT-loop
+Inv-loop t n out₀ at k₀ o₀ out k o = Copying t n out₀ out at k o
+
+abbrev μ-loop : tie.MeasureT-loop
+μ-loop t n out₀ at k₀ o₀ out k o = n + 1 - k
+
+loop-holds : tie.Need-loop-holds Inv-loop μ-loop
+loop-holds c = copying-start _ _ _ _ (c .before .before .pre .1) (c .before .before .pre .2)
+
+put-copy-requires : tie.Need-put-copy-requires Inv-loop μ-loop
+put-copy-requires c κs = (omega arith, omega (arith, c .before .before .loop .inv .left .long, c .before .before .before .before .before .pre .1))
+
+add-k : tie.Need-add-k Inv-loop μ-loop
+add-k c = search needs
+
+loop-less : tie.Need-loop-less Inv-loop μ-loop
+loop-less c = search needs
+
+loop-again : tie.Need-loop-again Inv-loop μ-loop
+loop-again c = copying-more _ _ _ _ _ _ _ (c .before .before .before .before .before .loop .inv) _ _ (c .before .before .before .before .loop-test .taken) (c .before .before .put-copy .ensures)
+
+same-length : tie.Need-same-length Inv-loop μ-loop
+same-length c = c .before .loop .inv .left .long
+
+returns : tie.Need-returns Inv-loop μ-loop
+returns c = copying-end _ _ _ _ _ _ _ (c .before .loop .inv) (c .loop-test .left)
+
+pub put-copies-spec : {M : Type 1} → statement M
+put-copies-spec =
+    tie.close
+    (tie.spec
+    Inv-loop
+    μ-loop
+    loop-holds
+    put-copy-requires
+    add-k
+    loop-less
+    loop-again
+    same-length
+    returns)

@@ -1,0 +1,127 @@
+// `:all`: a value cut before its signs, and each piece that ends with `:all` as copies.
+ghost use mathlib.Core.Path.{_≡_};
+ghost use mathlib.Core.List.{_∷_};
+ghost use mathlib.Core.Bool.{_||_};
+ghost use Prim.Native.Nat.{_≤_, _<_};
+ghost use lib.ListN.{length};
+ghost use lib.Dec.{eqb};
+ghost use Rattle.text.specs.Bytes.{concatMap};
+ghost use Rattle.output.specs.Store.{farthest, Wrote};
+ghost use Rattle.rules.specs.Headings.{decimal};
+ghost use Rattle.values.specs.Spread.{isSign, signed, cuts, endsAll, copy, copies, spread};
+ghost use Rattle.values.specs.Cutting.{CutEnd};
+use super::write;
+
+// Whether a byte is a sign.
+pub fn is_sign(b: u8) -> bool
+    ensures { λ r. ⌜ r ≡ isSign b ⌝ }
+{
+    b == b'+' || b == b'|'
+}
+
+// Whether a text begins with a sign.
+pub fn is_signed(t: &[u8]) -> bool
+    ensures { λ r. ⌜ r ≡ signed (now (t .entry)) ⌝ }
+{
+    is_sign(text::bytes::peek(t, 0))
+}
+
+// Whether a piece ends with `:all`.
+pub fn ends_all(t: &[u8]) -> bool
+    ensures { λ r. ⌜ r ≡ endsAll (now (t .entry)) ⌝ }
+{
+    if t.len() < 4 {
+        return false;
+    }
+    let a = t.len() - 4;
+    text::compare::same(&t[a..], b":all")
+}
+
+// Whether the k-th copy of a piece begins as the piece does.
+pub fn keeps(t: &[u8], k: usize) -> bool
+    ensures { λ r. ⌜ r ≡ signed (now (t .entry)) || eqb k 1 ⌝ }
+{
+    if k == 1 {
+        return true;
+    }
+    is_signed(t)
+}
+
+// Writes `:` and a copy's number.
+pub fn put_end(k: usize, out: &mut [u8], at: u32) -> u32
+    requires { ⌜ (k < 100) × (length (now out) ≤ farthest) ⌝ }
+    ensures { λ r. ⌜ Wrote (now (out .entry)) (now (out .exit)) at (58 ∷ decimal k) r ⌝ }
+{
+    let next = write::put_byte(b':', out, at);
+    write::put_number(k, out, next)
+}
+
+// Writes the k-th copy of a piece, `t` being what stands before its `:all`.
+pub fn put_copy(t: &[u8], k: usize, out: &mut [u8], at: u32) -> u32
+    requires { ⌜ (k < 100) × (length (now out) ≤ farthest) ⌝ }
+    ensures { λ r. ⌜ Wrote (now (out .entry)) (now (out .exit)) at (copy k (now (t .entry))) r ⌝ }
+{
+    if keeps(t, k) {
+        let a = write::put_text(t, out, at);
+        return put_end(k, out, a);
+    }
+    let p = write::put_byte(b'+', out, at);
+    let a = write::put_text(t, out, p);
+    put_end(k, out, a)
+}
+
+// Writes the copies 1 to n of a piece.
+pub fn put_copies(t: &[u8], n: usize, out: &mut [u8], at: u32) -> u32
+    requires { ⌜ (n < 100) × (length (now out) ≤ farthest) × (at ≤ farthest) ⌝ }
+    ensures { λ r. ⌜ Wrote (now (out .entry)) (now (out .exit)) at (copies n 1 (now (t .entry))) r ⌝ }
+{
+    let mut k: usize = 1;
+    let mut o: u32 = at;
+    while k <= n {
+        o = put_copy(t, k, out, o);
+        k += 1;
+    }
+    o
+}
+
+// Writes one piece, or its copies where it ends with `:all`.
+pub fn put_cut(t: &[u8], n: usize, out: &mut [u8], at: u32) -> u32
+    requires { ⌜ (n < 100) × (length (now out) ≤ farthest) × (at ≤ farthest) ⌝ }
+    ensures { λ r. ⌜ Wrote (now (out .entry)) (now (out .exit)) at (spread n (now (t .entry))) r ⌝ }
+{
+    if ends_all(t) {
+        let e = t.len() - 4;
+        return put_copies(&t[0..e], n, out, at);
+    }
+    write::put_text(t, out, at)
+}
+
+// Where the piece that goes on at `from` ends: before the next sign, or at the text's end.
+pub fn cut_end(t: &[u8], from: usize) -> usize
+    requires { ⌜ from ≤ length (now t) ⌝ }
+    ensures { λ r. ⌜ CutEnd (now (t .entry)) from r ⌝ }
+{
+    let mut i: usize = from;
+    while i < t.len() {
+        if is_sign(t[i]) {
+            return i;
+        }
+        i += 1;
+    }
+    i
+}
+
+// Writes a filled value with its `:all` spread over n layouts.
+pub fn put_spread(t: &[u8], n: usize, out: &mut [u8], at: u32) -> u32
+    requires { ⌜ (n < 100) × (length (now out) ≤ farthest) × (at ≤ farthest) ⌝ }
+    ensures { λ r. ⌜ Wrote (now (out .entry)) (now (out .exit)) at (concatMap (spread n) (cuts (now (t .entry)))) r ⌝ }
+{
+    let mut i: usize = 0;
+    let mut o: u32 = at;
+    while i < t.len() {
+        let e = cut_end(t, i + 1);
+        o = put_cut(&t[i..e], n, out, o);
+        i = e;
+    }
+    o
+}
