@@ -2,3 +2,5 @@ pub mod Values
 pub mod Writes
 pub mod Cuts
 pub mod Copying
+pub mod Choices
+pub mod Filling

@@ -1,3 +1,4 @@
 pub mod Values
 pub mod Spread
 pub mod Cutting
+pub mod Filling

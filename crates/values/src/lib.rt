@@ -1,4 +1,5 @@
 // Right-hand values, expanded for a profile and a layout.
 
+pub mod fill;
 pub mod spread;
 pub mod write;
