@@ -4,20 +4,18 @@ use native.Mathlib.Omega.{arith}
 use mathlib.Core.Path.{_≡_, refl, sym, ap, _∙_}
 use mathlib.Core.List.{List, [], _∷_, _++_}
 use mathlib.Core.Bool.{Bool, true, false, _||_, _&&_, cond}
-use lib.ListN.{length, take, drop, getD, length-append, length-drop, drop-of-length-le}
+use lib.ListN.{length, drop, getD, length-append, length-drop, drop-of-length-le}
 use lib.Seq.{drop-drop}
 use lib.Dec.{eqb, ltb, leb}
 use borrow.Author.Tests.{ltb-false}
-use Rattle.text.specs.Limits.{longestField, mostLayouts}
+use Rattle.text.specs.Limits.{longestField}
 use Rattle.text.specs.Bytes.{Text, empty, anyOf, concatMap}
-use Rattle.text.specs.Refusals.{refusedIf}
-use Rattle.text.specs.declared.Refusal.{Refusal}
 use Rattle.text.proofs.Comparing.{drop-at}
-use Rattle.text.proofs.Lists.{no, nil-left, nil-right}
+use Rattle.text.proofs.Lists.{no}
 use Rattle.output.specs.Store.{farthest, past, Wrote}
 use Rattle.output.proofs.Stores.{take-stored}
 use Rattle.profile.specs.Profile.{Profile, textsOf, fields, profileOf, layoutCount}
-use Rattle.profile.specs.Refusals.{longField, badText, textRefusals, countRefusals, profileRefusals}
+use Rattle.profile.specs.Refusals.{longField}
 use Rattle.rules.specs.declared.Which.{Which}
 use Rattle.rules.specs.declared.Which.the-variants as which
 use Rattle.rules.specs.declared.Variable.{Variable}
@@ -25,7 +23,7 @@ use Rattle.rules.specs.declared.Variable.the-variants as variable
 use Rattle.rules.specs.declared.Piece.{Piece}
 use Rattle.rules.specs.declared.Piece.the-variants.{Byte, Number, Bare, Parens, Prefixed, Unclosed}
 use Rattle.rules.specs.Headings.{decimal}
-use Rattle.rules.specs.Percent.{pieceAfter, whichLength, variableLength, pieceLength, pieces}
+use Rattle.rules.specs.Percent.{pieceAfter, variableLength, pieceLength, pieces}
 use Rattle.rules.proofs.Pieces.{pieces-none, pieces-byte, pieces-item, piece-fits}
 use Rattle.values.specs.Values.{choose, valueOf, pieceText, filled}
 use Rattle.values.specs.Filling.{mostPerByte, Short, Filled}
@@ -103,7 +101,7 @@ filled-of d d′ t o r h l w e =
 
 -- how long a filled word gets
 
-or-none : (a b : Bool) → a || b ≡ false → (a ≡ false) × (b ≡ false)
+pub or-none : (a b : Bool) → a || b ≡ false → (a ≡ false) × (b ≡ false)
 or-none true b h = absurd (no (sym h))
 or-none false b h = (refl, h)
 
@@ -141,12 +139,13 @@ module _ (m l v : Text) (short : Short m l v) (k : ℕ) where
   unfolding valueOf
   unknown-none = refl
 
-  short-bare : (x : Variable) → length (valueOf (profileOf (textsOf m l v [])) k x) ≤ mostPerByte * (1 + variableLength x)
+  -- nothing for no bytes
+  short-item : (x : Variable) → length (valueOf (profileOf (textsOf m l v [])) k x) ≤ longestField * variableLength x
   unfolding variableLength
-  short-bare variable.Model = omega (arith, short-value variable.Model)
-  short-bare (variable.Layout w) = omega (arith, short-value (variable.Layout w))
-  short-bare (variable.Variant w) = omega (arith, short-value (variable.Variant w))
-  short-bare variable.Unknown = omega (arith, unknown-none)
+  short-item variable.Model = short-value variable.Model
+  short-item (variable.Layout w) = omega (arith, short-value (variable.Layout w))
+  short-item (variable.Variant w) = omega (arith, short-value (variable.Variant w))
+  short-item variable.Unknown = omega (arith, unknown-none)
 
   short-number : length (decimal k) ≤ 2
   unfolding decimal
@@ -160,7 +159,7 @@ module _ (m l v : Text) (short : Short m l v) (k : ℕ) where
   unfolding pieceText pieceLength
   short-piece (Byte b) = omega arith
   short-piece Number = omega (arith, short-number)
-  short-piece (Bare x) = short-bare x
+  short-piece (Bare x) = omega (arith, short-value x, short-item x)
   short-piece (Parens x) = go (empty t) (short-value x)
     where
       t : Text
@@ -169,14 +168,15 @@ module _ (m l v : Text) (short : Short m l v) (k : ℕ) where
       go : (c : Bool) → length t ≤ longestField → length (cond c [] ((40 ∷ t) ++ (41 ∷ []))) ≤ mostPerByte * (1 + (2 + variableLength x))
       go true h = omega arith
       go false h = omega (arith, length-append t (41 ∷ []))
-  short-piece (Prefixed b x) = go (empty t) (short-value x)
+  short-piece (Prefixed b x) = go (empty t) (short-value x) (short-item x)
     where
       t : Text
       t = valueOf (profileOf (textsOf m l v [])) k x
 
-      go : (c : Bool) → length t ≤ longestField → length (cond c [] (b ∷ t)) ≤ mostPerByte * (1 + (1 + variableLength x))
-      go true h = omega arith
-      go false h = omega arith
+      go : (c : Bool) → length t ≤ longestField → length t ≤ longestField * variableLength x →
+          length (cond c [] (b ∷ t)) ≤ mostPerByte * (1 + (1 + variableLength x))
+      go true h i = omega arith
+      go false h i = omega arith
   short-piece Unclosed = omega arith
 
   short-pieces : (j : ℕ) (t : Text) → length (concatMap (pieceText (profileOf (textsOf m l v [])) k) (pieces j t)) ≤ mostPerByte * (length t - j)

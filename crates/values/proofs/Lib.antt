@@ -4,3 +4,5 @@ pub mod Cuts
 pub mod Copying
 pub mod Choices
 pub mod Filling
+pub mod Begins
+pub mod Profiles

@@ -1,8 +1,8 @@
 -- A word filled in a lent buffer.
 use Prim.Native.Nat.{ℕ, _≤_}
 use mathlib.Core.Path.{_≡_}
-use mathlib.Core.List.{List, [], _∷_, _++_}
-use mathlib.Core.Bool.{Bool, false, cond}
+use mathlib.Core.List.{[], _∷_, _++_}
+use mathlib.Core.Bool.{false, cond}
 use lib.ListN.{length, take}
 use Rattle.text.specs.Bytes.{Text, empty, anyOf}
 use Rattle.profile.specs.Profile.{fields}
@@ -32,9 +32,9 @@ pub record Short (m l v : Text) : Type 0 where
   pub layouts : anyOf longField (fields l) ≡ false
   pub variants : anyOf longField (fields v) ≡ false
 
--- A percent item takes two bytes or more and yields at most a field in parentheses, so each byte of a word yields at most 33.
+-- `%m`, two bytes, yields a field of 64 at most, and the longer items yield no more for each of their bytes.
 abbrev pub mostPerByte : ℕ
-mostPerByte = 33
+mostPerByte = 32
 
 -- the text t stands at the buffer's start, r bytes long: the buffer went from d to d′
 pub record Filled (d d′ : Text) (t : Text) (r : ℕ) : Type 0 where
