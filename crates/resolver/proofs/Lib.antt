@@ -5,3 +5,5 @@ pub mod Joined
 pub mod Answers
 pub mod Stretch
 pub mod Accepted
+pub mod Regions
+pub mod Written

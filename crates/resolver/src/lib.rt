@@ -1,1 +1,13 @@
 // The resolve of a rules file for a profile.
+
+// The next free position of each of ten regions of the buffer (base and additions of component 0, of component 1, ..), and which bases are set.
+pub struct Cursors {
+    pub at: [u32; 10],
+    pub based: [bool; 5],
+}
+
+// Where each of ten texts starts that stand one after the other, and where the last ends.
+pub struct Sums {
+    pub at: [u32; 10],
+    pub total: u32,
+}
