@@ -7,3 +7,6 @@ pub mod Stretch
 pub mod Accepted
 pub mod Regions
 pub mod Written
+pub mod Measured
+pub mod Going
+pub mod Placing

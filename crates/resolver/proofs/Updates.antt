@@ -24,11 +24,11 @@ unfolding base
 first-plain v vs h = rw h
 
 -- clauses
-add-cons : (v : Text) (vs : List Text) → additions (v ∷ vs) ≡ cond (signed v) v [] ++ additions vs
+pub add-cons : (v : Text) (vs : List Text) → additions (v ∷ vs) ≡ cond (signed v) v [] ++ additions vs
 unfolding additions
 add-cons v vs = refl
 
-base-cons : (v : Text) (vs : List Text) → base (v ∷ vs) ≡ cond (signed v) (base vs) v
+pub base-cons : (v : Text) (vs : List Text) → base (v ∷ vs) ≡ cond (signed v) (base vs) v
 unfolding base
 base-cons v vs = refl
 

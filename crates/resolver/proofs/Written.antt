@@ -16,6 +16,7 @@ use Rattle.resolver.specs.Firings.{Firing}
 use Rattle.resolver.specs.Components.{valuesOf, base, additions}
 use Rattle.resolver.specs.Answer.{textsFrom}
 use Rattle.resolver.specs.Writing.{fireCur, fireBuf, runCur, runBuf, Low}
+use Rattle.resolver.proofs.Updates.{add-cons, base-cons}
 use Rattle.resolver.proofs.Regions.{storedAll, addAt, Apart, put-apart, put-region, blanks, all-none, grown, low-put, grown-put, grown-none}
 
 -- the clauses, as equations
@@ -79,14 +80,6 @@ values-same k f fs e = rw (eq-eqb (f .component) k e)
 values-other : (k : ℕ) (f : Firing) (fs : List Firing) → (f .component ≡ k → ⊥) → valuesOf k (f ∷ fs) ≡ valuesOf k fs
 unfolding valuesOf
 values-other k f fs e = rw (ne-eqb (f .component) k e)
-
-base-cons : (v : Text) (vs : List Text) → base (v ∷ vs) ≡ cond (signed v) (base vs) v
-unfolding base
-base-cons v vs = refl
-
-add-cons : (v : Text) (vs : List Text) → additions (v ∷ vs) ≡ cond (signed v) v [] ++ additions vs
-unfolding additions
-add-cons v vs = refl
 
 dbl : ℕ → ℕ
 dbl zero = zero
