@@ -10,3 +10,4 @@ pub mod Written
 pub mod Measured
 pub mod Going
 pub mod Placing
+pub mod Beginnings

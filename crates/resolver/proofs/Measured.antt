@@ -1,10 +1,10 @@
 -- Measuring with no room, then writing into exactly the room that the ten texts take.
 use Prim.Native.Nat.{ℕ, zero, suc, _+_, _-_, _≤_, _<_, min}
 use native.Mathlib.Omega.{arith}
-use mathlib.Core.Path.{_≡_, refl, sym, ap, _∙_}
-use mathlib.Core.Bool.{Bool, true, false, _||_}
+use mathlib.Core.Path.{_≡_, refl, ap, _∙_}
+use mathlib.Core.Bool.{true, false}
 use mathlib.Core.List.{List, [], _∷_, _++_, map, append-nil}
-use lib.ListN.{length, take, drop, replicate}
+use lib.ListN.{length, take, replicate}
 use lib.Seq.{length-take-le, drop-length}
 use lib.Dec.{ltb}
 use borrow.Author.Tests.{lt-ltb, le-ltb}
@@ -12,6 +12,7 @@ use borrow.Rule.Slice.PartMut.{midOf, postOf, post-is}
 use Rattle.text.specs.declared.Refusal.{Refusal}
 use Rattle.text.specs.Limits.{longestTotal}
 use Rattle.text.specs.Bytes.{Text}
+use Rattle.text.proofs.Lists.{or-right}
 use Rattle.output.specs.Store.{farthest, past}
 use Rattle.resolver.specs.declared.Cursors.{Cursors}
 use Rattle.resolver.specs.Firings.{Firing}
@@ -121,10 +122,6 @@ counts-by fs m l at t n a b e g h =
 pub low-measured : (fs : List Firing) (m : Cursors) → m ≡ runCur (none-set (replicate 10 0)) fs → Low (m .at)
 low-measured fs m b = rw (ap (λ (q : Cursors). q .at) b ∙ measure fs) (low-caps (textsFrom 0 5 fs))
 
-or-right : (a : Bool) → a || true ≡ true
-or-right true = refl
-or-right false = refl
-
 -- the ways out of a resolve
 module _ (d : Text) (fs : List Firing) (l : Text) (lens at : List ℕ) (n : ℕ) (v : Counts fs l lens at n) where
   same-buffer : (r : Refusal) → l ++ d ≡ bufferAfter d (refused r)
@@ -135,7 +132,7 @@ module _ (d : Text) (fs : List Firing) (l : Text) (lens at : List ℕ) (n : ℕ)
   unfolding noRoom
   long-by r h =
       let e = lt-ltb longestTotal (total (textsFrom 0 5 fs)) (omega (arith, v .summed, caps-le (textsFrom 0 5 fs))) in
-      (rw e (or-right (ltb (length d) (total (textsFrom 0 5 fs)))), same-buffer r)
+      (or-right (ltb (length d) (total (textsFrom 0 5 fs))) _ e, same-buffer r)
 
   pub room-by : (r : Refusal) → length (l ++ d) < n → (noRoom (length d) (total (textsFrom 0 5 fs)) ≡ true) × (l ++ d ≡ bufferAfter d (refused r))
   unfolding noRoom
