@@ -122,6 +122,9 @@ counts-by fs m l at t n a b e g h =
 pub low-measured : (fs : List Firing) (m : Cursors) → m ≡ runCur (none-set (replicate 10 0)) fs → Low (m .at)
 low-measured fs m b = rw (ap (λ (q : Cursors). q .at) b ∙ measure fs) (low-caps (textsFrom 0 5 fs))
 
+pub low-placed : (fs : List Firing) (l : Text) (lens at : List ℕ) (n : ℕ) → Counts fs l lens at n → n ≤ longestTotal → Low at
+low-placed fs l lens at n v h = rw (v .placed) (low-starts 0 (caps (textsFrom 0 5 fs)) (omega (arith, v .summed)))
+
 -- the ways out of a resolve
 module _ (d : Text) (fs : List Firing) (l : Text) (lens at : List ℕ) (n : ℕ) (v : Counts fs l lens at n) where
   same-buffer : (r : Refusal) → l ++ d ≡ bufferAfter d (refused r)
@@ -140,9 +143,6 @@ module _ (d : Text) (fs : List Firing) (l : Text) (lens at : List ℕ) (n : ℕ)
       let k : length d < n = rw (v .none) at h in
       let e = lt-ltb (length d) (total (textsFrom 0 5 fs)) (omega (arith, k, v .summed, caps-le (textsFrom 0 5 fs))) in
       (rw e, same-buffer r)
-
-  pub low-placed : n ≤ longestTotal → Low at
-  low-placed h = rw (v .placed) (low-starts 0 (caps (textsFrom 0 5 fs)) (omega (arith, v .summed)))
 
   pub accepted-by : (d′ : Text) → n ≤ longestTotal → n ≤ length (l ++ d) → d′ ≡ runBuf (midOf 0 (n - 0) (l ++ d)) (none-set at) fs →
       (noRoom (length d) (total (textsFrom 0 5 fs)) ≡ false) × (lens ≡ map length (textsFrom 0 5 fs))
