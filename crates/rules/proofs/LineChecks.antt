@@ -14,11 +14,12 @@ use Rattle.text.specs.Refusals.{refusedIf, refusedAs, isNumber}
 use Rattle.text.specs.Lines.{Line, lines}
 use Rattle.text.proofs.Lists.{no}
 use Rattle.rules.specs.declared.Present.{Present}
-use Rattle.rules.specs.Headings.{Heading}
+use Rattle.rules.specs.declared.Index.{Index}
+use Rattle.rules.specs.Headings.{Heading, hasWord}
 use Rattle.rules.specs.Entries.{Entry, ignored, wrong, group, set, rule, entryOf}
 use Rattle.rules.specs.Faults.{Group, Groups, defined, shapeFault, ruleFault, lineFaults}
 use Rattle.rules.specs.Names.{groupsOf, definesOf}
-use Rattle.rules.specs.Checking.{noHeading, presentOf, presentFault, lineFault, presentAfter, namesAfter, checkFrom, namesFrom}
+use Rattle.rules.specs.Checking.{noHeading, formOf, presentOf, presentFault, lineFault, presentAfter, namesAfter, checkFrom, namesFrom}
 use Rattle.rules.proofs.Numbers.{goodEntry, entry-good}
 use Rattle.rules.proofs.LineByLine.{ruleFaults, faultsFrom, nextFaults, faults-line, faults-none, faults-start, groupsFrom, nextGroups, groups-line, groups-none, groups-start}
 
@@ -29,10 +30,18 @@ presentBy (some h) = presentOf h
 abbrev namesIn : Groups → List Text
 namesIn gs = map (λ g. g .name) gs
 
+form-is : (i : Index) → (eqb (formOf i) 0 ≡ false) × (eqb (formOf i) 2 ≡ hasWord i)
+unfolding formOf
+form-is i = go (hasWord i)
+  where
+    go : (t : Bool) → (eqb (cond t 2 1) 0 ≡ false) × (eqb (cond t 2 1) 2 ≡ t)
+    go true = (refl, refl)
+    go false = (refl, refl)
+
 rule-by : (h : Option Heading) (n : ℕ) (ws : Words) → ruleFaults h n ws ≡ refusedAs (presentFault (presentBy h) ws) n
 unfolding ruleFaults presentFault presentBy presentOf ruleFault refusedAs refusedIf
 rule-by none n ws = refl
-rule-by (some h) n ws = refl
+rule-by (some h) n ws = rw (form-is (h .index) .0, form-is (h .index) .1)
 
 zero-not : (m : ℕ) → eqb m 0 ≡ true → isNumber m ≡ false
 unfolding isNumber

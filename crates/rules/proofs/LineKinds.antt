@@ -19,10 +19,9 @@ use Rattle.rules.specs.Words.{isEquals, hasDollar, ordinary, isGroupName
 use Rattle.rules.specs.Headings.{leftItem, componentOf, goodItems, headingOf}
 use Rattle.rules.specs.Entries.{Entry, ignored, wrong, group, set, rule, before, after, setShape, setEntry, groupEntry, headingEntry, ruleEntry, entryOf}
 use Rattle.rules.specs.Splitting.{Tallied}
-use Rattle.rules.specs.Headings.{hasWord}
 use Rattle.rules.specs.declared.SetHeading.{SetHeading}
 use Rattle.rules.specs.Sets.{Holds, IsSet}
-use Rattle.rules.specs.Checking.{lineOf, presentOf, IsSetLine, IsKind}
+use Rattle.rules.specs.Checking.{lineOf, formOf, presentOf, IsSetLine, IsKind}
 
 -- another way to write the same line
 pub kind-of : (ws : Words) (e e′ : Entry) (k : LineKind) → e ≡ e′ → IsKind ws e′ k → IsKind ws e k
@@ -197,8 +196,8 @@ module _ (n : ℕ) (h : Bool) (ws : Words) where
 pub first-count : (ws : Words) (t : Tally) → Tallied ws t → t .first ≤ t .count
 first-count ws t v = omega (arith, v .first, v .count, before-length ws)
 
-pub set-line : (ws : Words) (r : SetHeading) (i : Bool) → setShape ws ≡ true → IsSet ws r → r .good ≡ true → i ≡ hasWord (r .index) →
-    IsSetLine (setEntry ws) (record { begun = true; left = r .left; right = r .right; indexed = i })
+pub set-line : (ws : Words) (r : SetHeading) (i : ℕ) → setShape ws ≡ true → IsSet ws r → r .good ≡ true → i ≡ formOf (r .index) →
+    IsSetLine (setEntry ws) (record { form = i; left = r .left; right = r .right })
 unfolding presentOf
 set-line ws r i h v g k =
     let w = v .holds g in

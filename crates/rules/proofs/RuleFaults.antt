@@ -4,6 +4,7 @@ use mathlib.Core.Path.{_≡_, refl, sym, _∙_}
 use mathlib.Core.List.{[]}
 use mathlib.Core.Bool.{Bool, true, false, cond}
 use lib.ListN.{length, getD, take, drop}
+use lib.Dec.{eqb}
 use borrow.Author.Tests.{eq-eqb, ne-eqb}
 use Rattle.text.specs.Bytes.{Text, Words, allOf, anyOf}
 use Rattle.rules.specs.declared.Present.{Present}
@@ -13,11 +14,14 @@ use Rattle.rules.specs.Faults.{ruleShape, shapeFault}
 use Rattle.rules.specs.Checking.{rightFault, presentFault}
 
 module _ (p : Present) (ws : Words) where
-  pub fault-none : p .begun ≡ false → 6 ≡ presentFault p ws
+  pub fault-none : p .form ≡ 0 → 6 ≡ presentFault p ws
   unfolding presentFault
-  fault-none h = rw h
+  fault-none z = rw (eq-eqb (p .form) 0 z)
 
-  module _ (h : p .begun ≡ true) (count : ℕ) (c : count ≡ length ws) where
+  module _ (n₀ : p .form ≡ 0 → ⊥) (count : ℕ) (c : count ≡ length ws) where
+    h : eqb (p .form) 0 ≡ false
+    h = ne-eqb (p .form) 0 n₀
+
     pub fault-count : (count ≡ p .left + 1 + p .right → ⊥) → 6 ≡ presentFault p ws
     unfolding presentFault shapeFault ruleShape
     fault-count n = rw (h, ne-eqb (length ws) _ (λ e. n (c ∙ e)))
@@ -36,6 +40,6 @@ module _ (p : Present) (ws : Words) where
         fault-equals q = rw (h, eq-eqb _ _ long, l, q)
 
         module _ (q : isEquals (getD ws (p .left) []) ≡ true) where
-          pub fault-right : (r : ℕ) → r ≡ rightFault (p .indexed) (drop (p .left + 1) ws) → r ≡ presentFault p ws
+          pub fault-right : (r : ℕ) → r ≡ rightFault (eqb (p .form) 2) (drop (p .left + 1) ws) → r ≡ presentFault p ws
           unfolding presentFault shapeFault ruleShape rightFault
           fault-right r e = e ∙ rw (h, eq-eqb _ _ long, l, q)

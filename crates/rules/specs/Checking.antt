@@ -4,7 +4,7 @@ use mathlib.Core.Path.{_≡_}
 use mathlib.Core.List.{List, [], _∷_, _++_}
 use mathlib.Core.Bool.{Bool, true, false, _||_, cond}
 use lib.ListN.{length, getD, drop}
-use lib.Dec.{leb}
+use lib.Dec.{eqb, leb}
 use Rattle.text.specs.declared.Refusal.{Refusal}
 use Rattle.text.specs.Limits.{mostGroups}
 use Rattle.text.specs.Bytes.{Text, Words, same, rest, allOf, anyOf, part}
@@ -16,6 +16,7 @@ use Rattle.rules.specs.declared.LineKind.{LineKind}
 use Rattle.rules.specs.declared.LineKind.the-variants as kind
 use Rattle.rules.specs.declared.Progress.{Progress}
 use Rattle.rules.specs.declared.Checked.{Checked}
+use Rattle.rules.specs.declared.Index.{Index}
 use Rattle.rules.specs.Words.{isGroupName, ordinary}
 use Rattle.rules.specs.Percent.{malformed}
 use Rattle.rules.specs.Headings.{Heading, hasWord}
@@ -27,10 +28,14 @@ abbrev pub lineOf : ℕ → Bool → Words → Line
 lineOf n h ws = record { number = n; isHeading = h; text = ws }
 
 abbrev pub noHeading : Present
-noHeading = record { begun = false; left = 0; right = 0; indexed = false }
+noHeading = record { form = 0; left = 0; right = 0 }
+
+-- a set's heading: 2 with one of the four index words, else 1
+unfoldable pub formOf : Index → ℕ
+formOf i = cond (hasWord i) 2 1
 
 unfoldable pub presentOf : Heading → Present
-presentOf h = record { begun = true; left = length (h .columns); right = length (h .components); indexed = hasWord (h .index) }
+presentOf h = record { form = formOf (h .index); left = length (h .columns); right = length (h .components) }
 
 -- a rule's right words
 unfoldable pub rightFault : Bool → Words → ℕ
@@ -38,7 +43,7 @@ rightFault i ws = cond (allOf ordinary ws) (cond (anyOf (malformed i) ws) 8 0) 6
 
 -- a rule under the present heading
 unfoldable pub presentFault : Present → Words → ℕ
-presentFault p ws = cond (p .begun) (shapeFault (p .left) (p .right) (p .indexed) ws) 6
+presentFault p ws = cond (eqb (p .form) 0) 6 (shapeFault (p .left) (p .right) (eqb (p .form) 2) ws)
 
 -- the refusal of a line, or 0
 unfoldable pub lineFault : List Text → Present → Entry → ℕ

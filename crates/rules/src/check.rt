@@ -108,10 +108,9 @@ fn check_line(
                 line,
                 groups: p.groups + 1,
                 present: Present {
-                    begun: false,
+                    form: 0,
                     left: 0,
                     right: 0,
-                    indexed: false,
                 },
                 fault,
             }
@@ -158,10 +157,9 @@ pub fn check_file(s: &[u8], names: &mut [usize; 128]) -> Checked
         line: 1,
         groups: 0,
         present: Present {
-            begun: false,
+            form: 0,
             left: 0,
             right: 0,
-            indexed: false,
         },
         fault: 0,
     };

@@ -9,8 +9,9 @@ ghost use Rattle.rules.specs.Words.{leftWord};
 ghost use Rattle.rules.specs.Percent.{malformed};
 ghost use Rattle.rules.specs.Checking.{rightFault};
 ghost use Rattle.rules.specs.Entries.{groupEntry, setEntry, headingEntry, entryOf};
-ghost use Rattle.rules.specs.Checking.{presentFault, IsKind, lineOf};
+ghost use Rattle.rules.specs.Checking.{formOf, presentFault, IsKind, lineOf};
 ghost use Rattle.rules.specs.Splitting.{wordsOf, Placed, Tallied, IsSplit};
+use super::Index;
 use super::LineKind;
 use super::Present;
 use super::Split;
@@ -76,7 +77,7 @@ pub fn rule_fault(w: &[u8], places: &[usize], count: usize, p: Present) -> usize
     requires { ⌜ Placed (now w) (now places) (wordsOf (now w)) (length (wordsOf (now w))) × (count ≡ length (wordsOf (now w))) × (p .left ≤ 4) × (p .right ≤ 5) ⌝ }
     ensures { λ r. ⌜ r ≡ presentFault p (wordsOf (now (w .entry))) ⌝ }
 {
-    if !p.begun {
+    if p.form == 0 {
         return 6;
     }
     let n = p.left;
@@ -89,7 +90,7 @@ pub fn rule_fault(w: &[u8], places: &[usize], count: usize, p: Present) -> usize
     if !is_equals(word(w, places, n)) {
         return 6;
     }
-    right_fault(w, places, n + 1, count, p.indexed)
+    right_fault(w, places, n + 1, count, p.form == 2)
 }
 
 // A heading that begins with a `$` word: a group line, or 6.
@@ -110,6 +111,15 @@ fn group_kind(w: &[u8], places: &[usize], t: Tally) -> LineKind
         return LineKind::Wrong(6);
     }
     LineKind::Group
+}
+
+fn form_of(i: Index) -> usize
+    ensures { λ r. ⌜ r ≡ formOf i ⌝ }
+{
+    if has_word(i) {
+        return 2;
+    }
+    1
 }
 
 // Any other heading: a set's, or 6 or 7.
@@ -134,12 +144,10 @@ fn set_kind(w: &[u8], places: &[usize], t: Tally) -> LineKind
         return LineKind::Wrong(7);
     }
     let index = h.index;
-    let indexed = has_word(index);
     LineKind::Set(Present {
-        begun: true,
+        form: form_of(index),
         left: h.left,
         right: h.right,
-        indexed,
     })
 }
 

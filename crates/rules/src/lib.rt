@@ -80,12 +80,12 @@ pub struct Split {
     pub line: usize,
 }
 
-// What a rule is held to by the heading before it: the numbers of its left and right words, and whether `%i` may stand in it. Where no set has begun there is none.
+// What a rule is held to by the heading before it: the numbers of its left and right words, and the heading's form: 0 there is none, 1 a set's, 2 a
+// set's with one of the four index words, under which `%i` may stand.
 pub struct Present {
-    pub begun: bool,
+    pub form: usize,
     pub left: usize,
     pub right: usize,
-    pub indexed: bool,
 }
 
 // What a line is by itself.

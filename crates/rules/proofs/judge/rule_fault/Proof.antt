@@ -13,7 +13,7 @@ use Rattle.rules.proofs.sets.word.Reads as word-reads
 use Rattle.rules.proofs.words.is_equals.Reads as is-equals-reads
 
 returns : tie.Need-returns
-returns c = fault-none _ _ (not-true _ (c .if1 .taken))
+returns c = fault-none _ _ (c .if1 .taken)
 
 add-if2 : tie.Need-add-if2
 add-if2 c = search needs
@@ -22,13 +22,13 @@ add-if2-2 : tie.Need-add-if2-2
 add-if2-2 c = search needs
 
 returns-2 : tie.Need-returns-2
-returns-2 c = fault-count _ _ (not-false _ (c .before .before .if1 .left)) _ (c .before .before .before .before .before .before .pre .1) (c .if2 .taken)
+returns-2 c = fault-count _ _ (c .before .before .if1 .left) _ (c .before .before .before .before .before .before .pre .1) (c .if2 .taken)
 
 left-words-requires : tie.Need-left-words-requires
 left-words-requires c κs = search needs
 
 returns-3 : tie.Need-returns-3
-returns-3 c = fault-left _ _ (not-false _ (c .before .before .before .before .if1 .left)) _ (c .before .before .before .before .before .before .before .before .pre .1) (c .before .before .if2 .left) (sym (c .before .left-words .ensures) ∙ not-true _ (c .if3 .taken))
+returns-3 c = fault-left _ _ (c .before .before .before .before .if1 .left) _ (c .before .before .before .before .before .before .before .before .pre .1) (c .before .before .if2 .left) (sym (c .before .left-words .ensures) ∙ not-true _ (c .if3 .taken))
 
 word-requires : tie.Need-word-requires
 word-requires c κs = search needs
@@ -37,7 +37,7 @@ is-equals-requires : tie.Need-is-equals-requires
 is-equals-requires c κs = search needs
 
 returns-4 : tie.Need-returns-4
-returns-4 c = fault-equals _ _ (not-false _ (c .before .before .before .before .before .before .before .if1 .left)) _ (c .before .before .before .before .before .before .before .before .before .before .before .pre .1) (c .before .before .before .before .before .if2 .left) (sym (c .before .before .before .before .left-words .ensures) ∙ not-false _ (c .before .before .before .if3 .left)) (ap isEquals (sym (c .before .before .word .ensures)) ∙ (sym (c .before .is-equals .ensures) ∙ not-true _ (c .if4 .taken)))
+returns-4 c = fault-equals _ _ (c .before .before .before .before .before .before .before .if1 .left) _ (c .before .before .before .before .before .before .before .before .before .before .before .pre .1) (c .before .before .before .before .before .if2 .left) (sym (c .before .before .before .before .left-words .ensures) ∙ not-false _ (c .before .before .before .if3 .left)) (ap isEquals (sym (c .before .before .word .ensures)) ∙ (sym (c .before .is-equals .ensures) ∙ not-true _ (c .if4 .taken)))
 
 add-right-fault : tie.Need-add-right-fault
 add-right-fault c = search needs
@@ -46,7 +46,7 @@ right-fault-requires : tie.Need-right-fault-requires
 right-fault-requires c κs = search needs
 
 returns-5 : tie.Need-returns-5
-returns-5 c = fault-right _ _ (not-false _ (c .before .before .before .before .before .before .before .before .if1 .left)) _ (c .before .before .before .before .before .before .before .before .before .before .before .before .pre .1) (c .before .before .before .before .before .before .if2 .left) (sym (c .before .before .before .before .before .left-words .ensures) ∙ not-false _ (c .before .before .before .before .if3 .left)) (ap isEquals (sym (c .before .before .before .word .ensures)) ∙ (sym (c .before .before .is-equals .ensures) ∙ not-false _ (c .before .if4 .left))) _ (c .right-fault .ensures)
+returns-5 c = fault-right _ _ (c .before .before .before .before .before .before .before .before .before .if1 .left) _ (c .before .before .before .before .before .before .before .before .before .before .before .before .before .pre .1) (c .before .before .before .before .before .before .before .if2 .left) (sym (c .before .before .before .before .before .before .left-words .ensures) ∙ not-false _ (c .before .before .before .before .before .if3 .left)) (ap isEquals (sym (c .before .before .before .before .word .ensures)) ∙ (sym (c .before .before .before .is-equals .ensures) ∙ not-false _ (c .before .before .if4 .left))) _ (c .right-fault .ensures)
 
 pub rule-fault-spec : {M : Type 1} → statement M
 rule-fault-spec =
