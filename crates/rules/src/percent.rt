@@ -186,7 +186,7 @@ fn skip_plain(w: &[u8]) -> usize
     ensures { λ r. ⌜ PlainTo (now (w .entry)) r ⌝ }
 {
     let mut i: usize = 0;
-    while 4 <= w.len() - i {
+    while i + 3 < w.len() {
         if w[i] == b'%' {
             return i;
         }
