@@ -1,0 +1,85 @@
+//! Safe calls of the C library `libxkbrules.a`.
+
+use std::ops::Range;
+
+extern "C" {
+    fn xkbrules_resolve(
+        rules: *const u8,
+        rules_len: usize,
+        model: *const u8,
+        model_len: usize,
+        layouts: *const u8,
+        layouts_len: usize,
+        variants: *const u8,
+        variants_len: usize,
+        options: *const u8,
+        options_len: usize,
+        texts: *mut u8,
+        texts_len: usize,
+        sheet: *mut u8,
+        sheet_len: usize,
+    ) -> u64;
+
+    fn xkbrules_component(
+        texts: *const u8,
+        texts_len: usize,
+        sheet: *const u8,
+        sheet_len: usize,
+        component: u64,
+    ) -> u64;
+}
+
+/// The answer's number and place.
+pub type Number = (u64, u64);
+
+/// Resolves the five inputs (rules, model, layouts, variants, options) that
+/// stand at the given ranges of `inputs`. The inputs are lent mutably so that
+/// the caller can see whether they were changed.
+pub fn resolve(
+    inputs: &mut [u8],
+    ranges: &[Range<usize>; 5],
+    texts: &mut [u8],
+    sheet: &mut [u8],
+) -> Number {
+    for range in ranges {
+        assert!(range.start <= range.end && range.end <= inputs.len());
+    }
+    let start = inputs.as_mut_ptr();
+    // SAFETY: each range lies in `inputs`; `texts` and `sheet` are lent with
+    // their own lengths, and no two of these overlap.
+    let packed = unsafe {
+        let at = |i: usize| start.add(ranges[i].start).cast_const();
+        xkbrules_resolve(
+            at(0),
+            ranges[0].len(),
+            at(1),
+            ranges[1].len(),
+            at(2),
+            ranges[2].len(),
+            at(3),
+            ranges[3].len(),
+            at(4),
+            ranges[4].len(),
+            texts.as_mut_ptr(),
+            texts.len(),
+            sheet.as_mut_ptr(),
+            sheet.len(),
+        )
+    };
+    (packed >> 48, packed & ((1 << 48) - 1))
+}
+
+/// One component's start and length. Lent mutably as above.
+pub fn component(texts: &mut [u8], sheet: &mut [u8], component: u64) -> (u64, u64) {
+    // SAFETY: both slices are lent with their own lengths.
+    let packed = unsafe {
+        xkbrules_component(
+            texts.as_mut_ptr().cast_const(),
+            texts.len(),
+            sheet.as_mut_ptr().cast_const(),
+            sheet.len(),
+            component,
+        )
+    };
+    (packed >> 32, packed & 0xffff_ffff)
+}
