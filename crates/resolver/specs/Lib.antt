@@ -5,3 +5,4 @@ pub mod Components
 pub mod Answer
 pub mod Joined
 pub mod Writing
+pub mod Groups

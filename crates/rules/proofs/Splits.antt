@@ -137,9 +137,9 @@ drop-head (w ∷ ws) (suc k) x r h =
     (v .0, rw e (v .1), omega (arith, v .2))
 
 pub placed-none : (w t : Text) (ws : Words) → length t ≡ 20 → Placed w t ws 0
-placed-none w t ws h = record { size = h; word = λ j l m. absurd (omega arith) }
+placed-none w t ws h = record { size = h; word = λ j l m. absurd (omega arith); behind = λ j l m. absurd (omega arith) }
 
-module _ (w t : Text) (ws : Words) (n a e : ℕ) (v : Placed w t ws n) (x : IsWord w a e (getD ws n [])) where
+module _ (w t : Text) (ws : Words) (n a e : ℕ) (v : Placed w t ws n) (x : IsWord w a e (getD ws n [])) (y : left w e ≡ drop (n + 1) ws) where
   put : Text
   put = withPair t n a e
 
@@ -171,6 +171,18 @@ module _ (w t : Text) (ws : Words) (n a e : ℕ) (v : Placed w t ws n) (x : IsWo
           let o = put-new l in
           rw (q, o .0, o .1) x
 
+  put-behind : n < 10 → (j : ℕ) → j < n + 1 → left w (getD put (2 * j + 1) 0) ≡ drop (j + 1) ws
+  put-behind l j m = go (ltb j n) refl
+    where
+      go : (b : Bool) → ltb j n ≡ b → left w (getD put (2 * j + 1) 0) ≡ drop (j + 1) ws
+      go true k =
+          let o = put-old j (ltb-true j n k) in
+          rw (o .1) (v .behind j (omega (arith, ltb-true j n k)) (ltb-true j n k))
+      go false k =
+          let q : j ≡ n = omega (arith, ltb-false j n k) in
+          let o = put-new l in
+          rw (q, o .1) y
+
   pub placed-more : (t′ : Text) → t′ ≡ stored t n a e → Placed w t′ ws (n + 1)
   unfolding stored
   placed-more t′ h = go (ltb n 10) refl
@@ -178,10 +190,15 @@ module _ (w t : Text) (ws : Words) (n a e : ℕ) (v : Placed w t ws n) (x : IsWo
       go : (b : Bool) → ltb n 10 ≡ b → Placed w t′ ws (n + 1)
       go true k =
           let q : t′ ≡ put = h ∙ stored-put k in
-          rw q (record { size = put-size; word = λ j l m. put-word (ltb-true n 10 k) j m })
+          rw q (record { size = put-size; word = λ j l m. put-word (ltb-true n 10 k) j m; behind = λ j l m. put-behind (ltb-true n 10 k) j m })
       go false k =
           let q : t′ ≡ t = h ∙ rw k in
-          rw q (record { size = v .size; word = λ j l m. v .word j l (omega (arith, ltb-false n 10 k)) })
+          rw q
+          (record {
+            size = v .size;
+            word = λ j l m. v .word j l (omega (arith, ltb-false n 10 k));
+            behind = λ j l m. v .behind j l (omega (arith, ltb-false n 10 k));
+          })
 
 -- the loop over the words of a line
 
@@ -227,7 +244,7 @@ module _ (h : Bool) (w t : Text) (n : Tally) (f i l : ℕ) (v : Splitting h w t 
       let d = drop-head (wordsOf w) (n .count) (part w a e) (left w e) (v .rest ∙ u .text) in
       let c : n′ .count ≡ n .count + 1 = ap (λ (x : Tally). x .count) q ∙ count-more h n (part w a e) in
       let x : IsWord w a e (getD (wordsOf w) (n .count) []) = record { low = omega (arith, u .some); high = u .high; text = sym (d .0) } in
-      let y : Placed w t′ (wordsOf w) (n .count + 1) = placed-more w t (wordsOf w) (n .count) a e (v .placed) x t′ p in
+      let y : Placed w t′ (wordsOf w) (n .count + 1) = placed-more w t (wordsOf w) (n .count) a e (v .placed) x (sym (d .1)) t′ p in
       record {
         high = u .high;
         few = omega (arith, v .few, u .grow);

@@ -54,10 +54,11 @@ pub record IsWord (w : Text) (a e : ℕ) (x : Text) : Type 0 where
   pub high : e ≤ length w
   pub text : part w a e ≡ x
 
--- the places t of the first n words, of which at most ten are placed
+-- the places t of the first n words, of which at most ten are placed, and what stands behind each
 pub record Placed (w t : Text) (ws : Words) (n : ℕ) : Type 0 where
   pub size : length t ≡ 2 * mostPlaced
   pub word : (j : ℕ) → j < mostPlaced → j < n → IsWord w (getD t (2 * j) 0) (getD t (2 * j + 1) 0) (getD ws j [])
+  pub behind : (j : ℕ) → j < mostPlaced → j < n → left w (getD t (2 * j + 1) 0) ≡ drop (j + 1) ws
 
 -- what is known of a line once it is split, a heading or any other; physical lines are counted from 0
 pub record IsSplit (h : Bool) (w t : Text) (r : Split) : Type 0 where
