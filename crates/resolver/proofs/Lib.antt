@@ -11,3 +11,4 @@ pub mod Measured
 pub mod Going
 pub mod Placing
 pub mod Beginnings
+pub mod ValueFires

@@ -6,3 +6,4 @@ pub mod Answer
 pub mod Joined
 pub mod Writing
 pub mod Groups
+pub mod Running
