@@ -12,3 +12,5 @@ pub mod Going
 pub mod Placing
 pub mod Beginnings
 pub mod ValueFires
+pub mod LineFirings
+pub mod SetRuns

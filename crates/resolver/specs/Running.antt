@@ -1,13 +1,23 @@
 -- What the walk over a file promises at each level: it fires the values that the definition lists.
 use Prim.Native.Nat.{ℕ, _≤_}
 use mathlib.Core.Path.{_≡_}
-use mathlib.Core.List.{List}
-use mathlib.Core.Bool.{false}
+use mathlib.Core.List.{List, map}
+use mathlib.Core.Bool.{Bool, false, cond}
+use lib.ListN.{take}
+use lib.Dec.{eqb}
 use Rattle.text.specs.Bytes.{Text, Words, anyOf}
+use Rattle.text.specs.Lines.{Line}
 use Rattle.text.specs.Words.{tooLong}
 use Rattle.profile.specs.Profile.{Profile}
+use Rattle.rules.specs.declared.Column.{Column}
+use Rattle.rules.specs.declared.Column.the-variants as column
+use Rattle.rules.specs.declared.SetHeading.{SetHeading}
+use Rattle.rules.specs.Headings.{Heading}
+use Rattle.rules.specs.Sections.{Rule, sections}
+use Rattle.rules.specs.Faults.{Groups}
 use Rattle.resolver.specs.declared.Cursors.{Cursors}
-use Rattle.resolver.specs.Firings.{ruleFires}
+use Rattle.resolver.specs.Matching.{members}
+use Rattle.resolver.specs.Firings.{Firing, ruleFires, setFires, firings}
 use Rattle.resolver.specs.Writing.{runBuf, runCur}
 
 -- no word is too long
@@ -18,3 +28,22 @@ ShortWords ws = anyOf tooLong ws ≡ false
 pub record FiredRule (p : Profile) (d d′ : Text) (q q′ : Cursors) (k : ℕ) (cs : List ℕ) (ws : Words) : Type 0 where
   pub bytes : (l : ℕ) → d′ ≡ runBuf d q (ruleFires p l k cs ws)
   pub places : (l : ℕ) → q′ ≡ runCur q (ruleFires p l k cs ws)
+
+-- the rules from a line on, up to the next heading; and what fires from a line on
+unfoldable pub rulesFrom : List Line → List Rule
+rulesFrom ls = sections ls .0
+
+unfoldable pub firingsFrom : Groups → Profile → List Line → List Firing
+firingsFrom gs p ls = firings gs p (sections ls .1)
+
+-- A heading that the check accepted, by its numbers.
+unfoldable pub columnBy : ℕ → Column
+columnBy c = cond (eqb c 1) column.Model (cond (eqb c 2) column.Layout (cond (eqb c 3) column.Variant column.Options))
+
+unfoldable pub headingBy : SetHeading → Heading
+headingBy r = record { columns = map columnBy (take (r .left) (r .columns)); index = r .index; components = take (r .right) (r .components) }
+
+-- the rules of a set from a line on, run at the layout k; the flag: every matching rule fires
+pub record FiredSet (p : Profile) (gs : Groups) (h : Heading) (every : Bool) (d d′ : Text) (q q′ : Cursors) (k : ℕ) (ls : List Line) : Type 0 where
+  pub bytes : d′ ≡ runBuf d q (setFires every (members gs) p h k (rulesFrom ls))
+  pub places : q′ ≡ runCur q (setFires every (members gs) p h k (rulesFrom ls))

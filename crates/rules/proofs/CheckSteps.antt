@@ -85,7 +85,7 @@ refused-none : (f n : ℕ) (rs : List Refusal) → f ≡ 0 → refusedAs f n ++ 
 unfolding refusedAs refusedIf
 refused-none f n rs h = rw h
 
-check-cons : (ns : List Text) (p : Present) (l : Line) (ls : List Line) → checkFrom ns p (l ∷ ls) ≡
+pub check-cons : (ns : List Text) (p : Present) (l : Line) (ls : List Line) → checkFrom ns p (l ∷ ls) ≡
     refusedAs (lineFault ns p (entryOf l)) (l .number) ++ checkFrom (namesAfter ns (entryOf l)) (presentAfter p (entryOf l)) ls
 unfolding checkFrom
 check-cons ns p l ls = refl

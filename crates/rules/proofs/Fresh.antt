@@ -126,7 +126,7 @@ fresh-words g (w ∷ ws) l h =
     both-and (freshWord g w) (allOf (freshWord g) ws) (fresh-word g w (a .0) (b .0)) (fresh-words g ws (a .1) (b .1))
 
 -- a rule without a fault has left words on its left side
-as-none : (n p : ℕ) → refusedAs n p ≡ [] → eqb n 0 ≡ true
+pub as-none : (n p : ℕ) → refusedAs n p ≡ [] → eqb n 0 ≡ true
 unfolding refusedAs refusedIf
 as-none n p h = go (eqb n 0) (record { number = n; place = p }) h
   where

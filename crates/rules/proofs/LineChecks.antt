@@ -30,7 +30,7 @@ presentBy (some h) = presentOf h
 abbrev namesIn : Groups → List Text
 namesIn gs = map (λ g. g .name) gs
 
-form-is : (i : Index) → (eqb (formOf i) 0 ≡ false) × (eqb (formOf i) 2 ≡ hasWord i)
+pub form-is : (i : Index) → (eqb (formOf i) 0 ≡ false) × (eqb (formOf i) 2 ≡ hasWord i)
 unfolding formOf
 form-is i = go (hasWord i)
   where

@@ -1,0 +1,240 @@
+-- The rules of a set, run line by line at one layout.
+use Prim.Native.Nat.{ℕ, zero, suc, _+_, _-_, _≤_, _<_}
+use native.Mathlib.Omega.{arith}
+use native.Mathlib.Numerals.{add-one}
+use mathlib.Core.Path.{_≡_, refl, sym, ap, _∙_}
+use mathlib.Core.List.{List, [], _∷_, _++_, append-nil}
+use mathlib.Core.Bool.{Bool, true, false, not, _||_, _&&_, cond}
+use lib.ListN.{length, getD, drop, drop-of-length-le}
+use lib.Seq.{drop-cons}
+use lib.Dec.{eqb}
+use borrow.Author.Tests.{eqb-true, eqb-false, eq-eqb, ne-eqb}
+use Rattle.text.specs.Bytes.{Text, Words, bytes, same, anyOf, allOf}
+use Rattle.text.specs.Lines.{Line}
+use Rattle.text.specs.Words.{badByte, tooLong, wordsFault}
+use Rattle.text.specs.Refusals.{refusedAs}
+use Rattle.text.proofs.Lists.{no, and-both, nil-left, nil-right}
+use Rattle.profile.specs.Profile.{Profile}
+use Rattle.rules.specs.declared.Column.{Column}
+use Rattle.rules.specs.declared.Column.the-variants as column
+use Rattle.rules.specs.Words.{isEquals, hasDollar, ordinary, isGroupName}
+use Rattle.rules.specs.Headings.{Heading, goodItems, headingOf}
+use Rattle.rules.specs.Entries.{Entry, ignored, wrong, group, set, rule, setShape, setEntry, groupEntry, headingEntry, ruleEntry, entryOf}
+use Rattle.rules.specs.Sections.{Rule}
+use Rattle.rules.specs.Faults.{Groups, ruleShape, shapeFault, rightWords}
+use Rattle.rules.specs.declared.Present.{Present}
+use Rattle.rules.specs.Checking.{lineOf, presentOf, presentFault, lineFault, presentAfter, namesAfter, checkFrom}
+use Rattle.rules.proofs.Fresh.{as-none}
+use Rattle.rules.proofs.CheckSteps.{check-cons}
+use Rattle.rules.proofs.LineChecks.{form-is}
+use Rattle.resolver.specs.Matching.{members, columnMatches, ruleMatches}
+use Rattle.resolver.specs.Firings.{Firing, ruleFires, setFires}
+use Rattle.resolver.specs.Running.{rulesFrom}
+use Rattle.resolver.proofs.LineFirings.{nextRules, rules-line, rules-none}
+
+-- a line that is no heading, in a file that is accepted
+
+faultless : (ws : Words) → wordsFault ws ≡ 0 → anyOf tooLong ws ≡ false
+unfolding wordsFault
+faultless ws h = go (anyOf (anyOf badByte) ws) (anyOf tooLong ws) h
+  where
+    go : (a b : Bool) → _≡_ {A = ℕ} (cond a 4 (cond b 5 0)) 0 → b ≡ false
+    go true b e = absurd (eqb-false 4 0 refl e)
+    go false true e = absurd (eqb-false 5 0 refl e)
+    go false false e = refl
+
+shape-count : (l r : ℕ) (ws : Words) → ruleShape l r ws ≡ true → length ws ≡ l + 1 + r
+unfolding ruleShape
+shape-count l r ws h = eqb-true (length ws) (l + 1 + r) (and-both (eqb (length ws) (l + 1 + r)) _ h .0)
+
+shape-six : (l r : ℕ) (i : Bool) (ws : Words) → ruleShape l r ws ≡ false → shapeFault l r i ws ≡ 0 → ⊥
+unfolding shapeFault
+shape-six l r i ws h e = let z : _≡_ {A = ℕ} 6 0 = rw h at e in eqb-false 6 0 refl z
+
+shape-fine : (l r : ℕ) (i : Bool) (ws : Words) → shapeFault l r i ws ≡ 0 → length ws ≡ l + 1 + r
+shape-fine l r i ws e = go (ruleShape l r ws) refl
+  where
+    go : (t : Bool) → ruleShape l r ws ≡ t → length ws ≡ l + 1 + r
+    go true q = shape-count l r ws q
+    go false q = absurd (shape-six l r i ws q e)
+
+present-shape : (h : Heading) (ws : Words) → presentFault (presentOf h) ws ≡ shapeFault (length (h .columns)) (length (h .components)) (eqb (presentOf h .form) 2) ws
+unfolding presentFault presentOf
+present-shape h ws = rw (form-is (h .index) .0)
+
+-- the rule's words are as many as its heading asks
+rule-count : (h : Heading) (ws : Words) → presentFault (presentOf h) ws ≡ 0 → length ws ≡ length (h .columns) + 1 + length (h .components)
+rule-count h ws e = shape-fine _ _ _ ws (sym (present-shape h ws) ∙ e)
+
+-- what a line that is no heading is, in a file that is accepted
+pub record CleanLine (ns : List Text) (h : Heading) (n : ℕ) (ws : Words) (ls : List Line) : Type 0 where
+  pub rest : checkFrom ns (presentOf h) ls ≡ []
+  pub short : anyOf tooLong ws ≡ false
+  pub ignored-is : length ws ≡ 0 → entryOf (lineOf n false ws) ≡ ignored
+  pub rule-is : (length ws ≡ 0 → ⊥) → entryOf (lineOf n false ws) ≡ rule ws
+  pub count : (length ws ≡ 0 → ⊥) → length ws ≡ length (h .columns) + 1 + length (h .components)
+
+no-words : (ws : Words) → length ws ≡ 0 → ruleEntry ws ≡ ignored
+unfolding ruleEntry
+no-words [] h = refl
+no-words (w ∷ ws) h = absurd (omega arith)
+
+some-words : (ws : Words) → (length ws ≡ 0 → ⊥) → ruleEntry ws ≡ rule ws
+unfolding ruleEntry
+some-words [] h = absurd (h refl)
+some-words (w ∷ ws) h = refl
+
+entry-clean : (n : ℕ) (ws : Words) → wordsFault ws ≡ 0 → entryOf (lineOf n false ws) ≡ ruleEntry ws
+unfolding entryOf
+entry-clean n ws e = rw (eq-eqb (wordsFault ws) 0 e)
+
+entry-faulty : (n : ℕ) (h : Bool) (ws : Words) → (wordsFault ws ≡ 0 → ⊥) → entryOf (lineOf n h ws) ≡ wrong (wordsFault ws)
+unfolding entryOf
+entry-faulty n h ws e = rw (ne-eqb (wordsFault ws) 0 e)
+
+fault-wrong : (ns : List Text) (p : Present) (k : ℕ) → lineFault ns p (wrong k) ≡ k
+unfolding lineFault
+fault-wrong ns p k = refl
+
+carry-rule : (ns : List Text) (p : Present) (ws : Words) → (namesAfter ns (ruleEntry ws) ≡ ns) × (presentAfter p (ruleEntry ws) ≡ p)
+unfolding namesAfter presentAfter ruleEntry
+carry-rule ns p [] = (refl, refl)
+carry-rule ns p (w ∷ ws) = (refl, refl)
+
+fault-rule : (ns : List Text) (p : Present) (ws : Words) → lineFault ns p (rule ws) ≡ presentFault p ws
+unfolding lineFault
+fault-rule ns p ws = refl
+
+pub clean-line : (ns : List Text) (h : Heading) (n : ℕ) (ws : Words) (ls : List Line) → checkFrom ns (presentOf h) (lineOf n false ws ∷ ls) ≡ [] →
+    CleanLine ns h n ws ls
+clean-line ns h n ws ls c =
+    let x = sym (check-cons ns (presentOf h) (lineOf n false ws) ls) ∙ c in
+    let z : lineFault ns (presentOf h) (entryOf (lineOf n false ws)) ≡ 0 = eqb-true _ 0 (as-none _ n (nil-left _ _ x)) in
+    let f : wordsFault ws ≡ 0 = fault-zero z in
+    let e = entry-clean n ws f in
+    let y = nil-right (refusedAs (lineFault ns (presentOf h) (entryOf (lineOf n false ws))) n) _ x in
+    record {
+      rest = rw (e, carry-rule ns (presentOf h) ws .0, carry-rule ns (presentOf h) ws .1) at y;
+      short = faultless ws f;
+      ignored-is = λ l. e ∙ no-words ws l;
+      rule-is = λ l. e ∙ some-words ws l;
+      count = λ l. rule-count h ws (sym (fault-rule ns (presentOf h) ws) ∙ (rw (e, some-words ws l) at z));
+    }
+  where
+    fault-zero : lineFault ns (presentOf h) (entryOf (lineOf n false ws)) ≡ 0 → wordsFault ws ≡ 0
+    fault-zero z = go (eqb (wordsFault ws) 0) refl
+      where
+        go : (t : Bool) → eqb (wordsFault ws) 0 ≡ t → wordsFault ws ≡ 0
+        go true q = eqb-true _ 0 q
+        go false q = sym (fault-wrong ns (presentOf h) (wordsFault ws)) ∙ (rw (entry-faulty n false ws (eqb-false _ 0 q)) at z)
+
+-- a heading ends the rules
+
+isHead : Entry → Bool
+isHead ignored = false
+isHead (wrong k) = true
+isHead (group g ms) = true
+isHead (set h) = true
+isHead (rule ws) = false
+
+either : (t : Bool) (a b : Entry) → isHead a ≡ true → isHead b ≡ true → isHead (cond t a b) ≡ true
+either true a b h k = h
+either false a b h k = k
+
+set-head : (ws : Words) → isHead (setEntry ws) ≡ true
+unfolding setEntry isHead
+set-head ws = either (setShape ws) _ (wrong 6) (either (goodItems _ _) _ (wrong 7) refl refl) refl
+
+group-head : (n : Text) (ws : Words) → isHead (groupEntry n ws) ≡ true
+unfolding groupEntry isHead
+group-head n [] = refl
+group-head n (e ∷ ws) = either (isGroupName n && (isEquals e && allOf ordinary ws)) _ (wrong 6) refl refl
+
+heading-head : (ws : Words) → isHead (headingEntry ws) ≡ true
+unfolding headingEntry isHead
+heading-head [] = refl
+heading-head (w ∷ ws) = either (hasDollar w) (groupEntry w ws) _ (group-head w ws) (either (same w (bytes "include")) (wrong 9) (setEntry (w ∷ ws)) refl (set-head (w ∷ ws)))
+
+line-head : (n : ℕ) (ws : Words) → isHead (entryOf (lineOf n true ws)) ≡ true
+unfolding entryOf isHead
+line-head n ws = either (eqb (wordsFault ws) 0) (headingEntry ws) (wrong (wordsFault ws)) (heading-head ws) refl
+
+head-rules : (n : ℕ) (e : Entry) (ls : List Line) → isHead e ≡ true → nextRules n e ls ≡ []
+unfolding nextRules isHead
+head-rules n ignored ls h = absurd (no h)
+head-rules n (wrong k) ls h = refl
+head-rules n (group g ms) ls h = refl
+head-rules n (set g) ls h = refl
+head-rules n (rule ws) ls h = absurd (no h)
+
+-- what the rules from a line on fire
+
+module _ (every : Bool) (look : Text → Words) (p : Profile) (h : Heading) (k : ℕ) where
+  fires-none : setFires every look p h k [] ≡ []
+  unfolding setFires
+  fires-none = refl
+
+  fires-cons : (r : Rule) (rs : List Rule) → setFires every look p h k (r ∷ rs) ≡
+      cond (ruleMatches look p k (h .columns) (r .text)) (ruleFires p (r .number) k (h .components) (rightWords h (r .text)) ++ cond every (setFires every look p h k rs) []) (setFires every look p h k rs)
+  unfolding setFires
+  fires-cons r rs = refl
+
+  pub run-end : setFires every look p h k (rulesFrom []) ≡ []
+  run-end = rw (rules-none) fires-none
+
+  pub run-heading : (n : ℕ) (ws : Words) (ls : List Line) → setFires every look p h k (rulesFrom (lineOf n true ws ∷ ls)) ≡ []
+  run-heading n ws ls = rw (rules-line (lineOf n true ws) ls, head-rules n (entryOf (lineOf n true ws)) ls (line-head n ws)) fires-none
+
+  module _ (n : ℕ) (ws : Words) (ls : List Line) where
+    pub run-ignored : entryOf (lineOf n false ws) ≡ ignored → setFires every look p h k (rulesFrom (lineOf n false ws ∷ ls)) ≡ setFires every look p h k (rulesFrom ls)
+    unfolding nextRules
+    run-ignored e = rw (rules-line (lineOf n false ws) ls, e)
+
+    run-rule : entryOf (lineOf n false ws) ≡ rule ws → setFires every look p h k (rulesFrom (lineOf n false ws ∷ ls)) ≡
+        cond (ruleMatches look p k (h .columns) ws) (ruleFires p n k (h .components) (rightWords h ws) ++ cond every (setFires every look p h k (rulesFrom ls)) []) (setFires every look p h k (rulesFrom ls))
+    unfolding nextRules
+    run-rule e = rw (rules-line (lineOf n false ws) ls, e) (fires-cons (record { number = n; text = ws }) (rulesFrom ls))
+
+    pub run-miss : entryOf (lineOf n false ws) ≡ rule ws → ruleMatches look p k (h .columns) ws ≡ false →
+        setFires every look p h k (rulesFrom (lineOf n false ws ∷ ls)) ≡ setFires every look p h k (rulesFrom ls)
+    run-miss e m = run-rule e ∙ rw m
+
+    pub run-hit : entryOf (lineOf n false ws) ≡ rule ws → ruleMatches look p k (h .columns) ws ≡ true →
+        setFires every look p h k (rulesFrom (lineOf n false ws ∷ ls)) ≡
+        ruleFires p n k (h .components) (rightWords h ws) ++ cond every (setFires every look p h k (rulesFrom ls)) []
+    run-hit e m = run-rule e ∙ rw m
+
+-- the left words of a rule, one column after the other
+
+pub record Matched (look : Text → Words) (p : Profile) (k : ℕ) (cs : List Column) (ws : Words) (c : ℕ) : Type 0 where
+  pub high : c ≤ length cs
+  pub rest : ruleMatches look p k cs ws ≡ ruleMatches look p k (drop c cs) (drop c ws)
+
+module _ (look : Text → Words) (p : Profile) (k : ℕ) (cs : List Column) (ws : Words) where
+  pub matched-start : Matched look p k cs ws 0
+  matched-start = record { high = omega arith; rest = refl }
+
+  matches-cons : (c : Column) (ds : List Column) (w : Text) (us : Words) → ruleMatches look p k (c ∷ ds) (w ∷ us) ≡ (columnMatches look p k c w && ruleMatches look p k ds us)
+  unfolding ruleMatches
+  matches-cons c ds w us = refl
+
+  matches-none : (us : Words) → ruleMatches look p k [] us ≡ true
+  unfolding ruleMatches
+  matches-none us = refl
+
+  module _ (c : ℕ) (v : Matched look p k cs ws c) where
+    pub matched-end : length cs ≤ c → ruleMatches look p k cs ws ≡ true
+    matched-end h = v .rest ∙ rw (drop-of-length-le cs h) (matches-none (drop c ws))
+
+    module _ (x : Column) (h : c < length cs) (l : c < length ws) where
+      step : ruleMatches look p k (drop c cs) (drop c ws) ≡ (columnMatches look p k (getD cs c x) (getD ws c []) && ruleMatches look p k (drop (c + 1) cs) (drop (c + 1) ws))
+      step =
+          let a : drop c cs ≡ getD cs c x ∷ drop (c + 1) cs = rw add-one (drop-cons cs c x h) in
+          let b : drop c ws ≡ getD ws c [] ∷ drop (c + 1) ws = rw add-one (drop-cons ws c [] l) in
+          rw (a, b) (matches-cons (getD cs c x) (drop (c + 1) cs) (getD ws c []) (drop (c + 1) ws))
+
+      pub matched-more : columnMatches look p k (getD cs c x) (getD ws c []) ≡ true → Matched look p k cs ws (c + 1)
+      matched-more e = record { high = omega arith; rest = v .rest ∙ (step ∙ rw e) }
+
+      pub matched-miss : columnMatches look p k (getD cs c x) (getD ws c []) ≡ false → ruleMatches look p k cs ws ≡ false
+      matched-miss e = v .rest ∙ (step ∙ rw e)
