@@ -14,3 +14,4 @@ pub mod Beginnings
 pub mod ValueFires
 pub mod LineFirings
 pub mod SetRuns
+pub mod SetLoops

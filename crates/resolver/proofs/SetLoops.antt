@@ -1,0 +1,121 @@
+-- The loop over the rules of a set at one layout: one law for each way through it.
+use Prim.Native.Nat.{ℕ, _+_, _-_, _≤_, _<_}
+use native.Mathlib.Omega.{arith}
+use mathlib.Core.Path.{_≡_, refl, sym, ap, _∙_}
+use mathlib.Core.List.{List, [], _∷_, _++_, map, append-nil}
+use mathlib.Core.Bool.{Bool, true, false, cond}
+use lib.ListN.{length, take, drop, drop-of-length-le}
+use Rattle.text.specs.declared.Place.the-variants.{Start}
+use Rattle.text.specs.Bytes.{Text, Words}
+use Rattle.text.specs.Marks.{marks}
+use Rattle.text.specs.Lines.{Line, linesOf, words, heading}
+use Rattle.text.specs.Reading.{follow, Opens}
+use Rattle.text.proofs.Positions.{lines-nil}
+use Rattle.text.proofs.Readers.{marks-nil, lineAt, line-first}
+use Rattle.profile.specs.Profile.{Profile, textsOf, profileOf}
+use Rattle.rules.specs.Headings.{Heading}
+use Rattle.rules.specs.Entries.{ignored, rule, entryOf}
+use Rattle.rules.specs.Faults.{Groups, rightWords}
+use Rattle.rules.specs.Checking.{lineOf, presentOf, checkFrom}
+use Rattle.values.specs.Spread.{expanded}
+use Rattle.values.proofs.Profiles.{expanded-options}
+use Rattle.resolver.specs.declared.Cursors.{Cursors}
+use Rattle.resolver.specs.Matching.{members, ruleMatches}
+use Rattle.resolver.specs.Firings.{Firing, fired, ruleFires, setFires}
+use Rattle.resolver.specs.Writing.{Low, runBuf, runCur}
+use Rattle.resolver.specs.Running.{FiredRule, rulesFrom, FiredSet}
+use Rattle.resolver.proofs.Going.{Going, going-start, going-more, going-end}
+use Rattle.resolver.proofs.SetRuns.{CleanLine, clean-line, run-end, run-heading, run-ignored, run-miss, run-hit}
+
+-- a rule's values do not look at the options
+rule-options : (m l v o : Text) (n k : ℕ) (cs : List ℕ) (ws : Words) →
+    ruleFires (profileOf (textsOf m l v [])) n k cs ws ≡ ruleFires (profileOf (textsOf m l v o)) n k cs ws
+unfolding ruleFires
+rule-options m l v o n k [] ws = refl
+rule-options m l v o n k (c ∷ cs) [] = refl
+rule-options m l v o n k (c ∷ cs) (w ∷ ws) = rw (expanded-options m l v o k w, rule-options m l v o n k cs ws)
+
+-- the line at a position is a heading
+pub heading-first : (s : Text) (at n from m : ℕ) → at < length s → Opens s at n true from m →
+    follow s at n ≡ lineOf n true (words false (marks Start (drop at s))) ∷ linesOf n true (marks Start (drop at s))
+unfolding follow lineAt
+heading-first s at n from m h o = rw (line-first s n at h, o .mark)
+
+no-lines : (s : Text) (at n : ℕ) → length s ≤ at → follow s at n ≡ []
+unfolding follow
+no-lines s at n h = rw (drop-of-length-le s h, marks-nil, lines-nil)
+
+module _ (s : Text) (p : Profile) (gs : Groups) (h : Heading) (every : Bool) (k : ℕ) (ns : List Text) (d₀ : Text) (q₀ : Cursors) (ls₀ : List Line) where
+  pub record SetGoing (d : Text) (q : Cursors) (at n : ℕ) : Type 0 where
+    pub high : at ≤ length s
+    pub few : n ≤ at + 1
+    pub clean : checkFrom ns (presentOf h) (follow s at n) ≡ []
+    pub going : Going d₀ q₀ (setFires every (members gs) p h k (rulesFrom ls₀)) d q (setFires every (members gs) p h k (rulesFrom (follow s at n)))
+
+  fired-set : (d : Text) (q : Cursors) → Going d₀ q₀ (setFires every (members gs) p h k (rulesFrom ls₀)) d q [] → FiredSet p gs h every d₀ d q₀ q k ls₀
+  fired-set d q g = let e = going-end d₀ q₀ _ d q g in record { bytes = e .0; places = e .1 }
+
+  module _ (d : Text) (q : Cursors) (at n : ℕ) (v : SetGoing d q at n) where
+    pub set-over : length s ≤ at → FiredSet p gs h every d₀ d q₀ q k ls₀
+    set-over l = fired-set d q (rw (no-lines s at n l, run-end every (members gs) p h k) at (v .going))
+
+    pub set-stop : (from m : ℕ) → at < length s → Opens s at n true from m → FiredSet p gs h every d₀ d q₀ q k ls₀
+    set-stop from m l o = fired-set d q (rw (heading-first s at n from m l o, run-heading every (members gs) p h k) at (v .going))
+
+    module _ (ws : Words) (at′ n′ : ℕ) (read : follow s at n ≡ lineOf n false ws ∷ follow s at′ n′) (high′ : at′ ≤ length s) (few′ : n′ ≤ at′ + 1) where
+      pub line-clean : CleanLine ns h n ws (follow s at′ n′)
+      line-clean = clean-line ns h n ws (follow s at′ n′) (rw read at (v .clean))
+
+      going-line : Going d₀ q₀ (setFires every (members gs) p h k (rulesFrom ls₀)) d q (setFires every (members gs) p h k (rulesFrom (lineOf n false ws ∷ follow s at′ n′)))
+      going-line = rw read at (v .going)
+
+      pub set-pass : length ws ≡ 0 → SetGoing d q at′ n′
+      set-pass z =
+          record {
+            high = high′;
+            few = few′;
+            clean = line-clean .rest;
+            going = rw (run-ignored every (members gs) p h k n ws (follow s at′ n′) (line-clean .ignored-is z)) at going-line;
+          }
+
+      module _ (z : length ws ≡ 0 → ⊥) where
+        pub set-miss : ruleMatches (members gs) p k (h .columns) ws ≡ false → SetGoing d q at′ n′
+        set-miss e =
+            record {
+              high = high′;
+              few = few′;
+              clean = line-clean .rest;
+              going = rw (run-miss every (members gs) p h k n ws (follow s at′ n′) (line-clean .rule-is z) e) at going-line;
+            }
+
+        module _ (e : ruleMatches (members gs) p k (h .columns) ws ≡ true) (d′ : Text) (q′ : Cursors)
+            (f : FiredRule p d d′ q q′ k (h .components) (rightWords h ws)) where
+          going-hit : Going d₀ q₀ (setFires every (members gs) p h k (rulesFrom ls₀)) d′ q′ (cond every (setFires every (members gs) p h k (rulesFrom (follow s at′ n′))) [])
+          going-hit =
+              going-more d₀ q₀ _ d q (ruleFires p n k (h .components) (rightWords h ws)) _ d′ q′
+              (rw (run-hit every (members gs) p h k n ws (follow s at′ n′) (line-clean .rule-is z) e) at going-line)
+              (f .bytes n)
+              (f .places n)
+
+          left-over : {b : Bool} → every ≡ b → cond every (setFires every (members gs) p h k (rulesFrom (follow s at′ n′))) [] ≡
+              cond b (setFires every (members gs) p h k (rulesFrom (follow s at′ n′))) []
+          left-over t = ap (λ (c : Bool). cond c (setFires every (members gs) p h k (rulesFrom (follow s at′ n′))) []) t
+
+          pub set-once : every ≡ false → FiredSet p gs h every d₀ d′ q₀ q′ k ls₀
+          set-once t = fired-set d′ q′ (rw (left-over t) at going-hit)
+
+          pub set-more : every ≡ true → SetGoing d′ q′ at′ n′
+          set-more t = record { high = high′; few = few′; clean = line-clean .rest; going = rw (left-over t) at going-hit }
+
+pub set-start : (s : Text) (p : Profile) (gs : Groups) (h : Heading) (every : Bool) (k : ℕ) (ns : List Text) (d : Text) (q : Cursors) (at n : ℕ) →
+    at ≤ length s → n ≤ at + 1 → checkFrom ns (presentOf h) (follow s at n) ≡ [] → Low (q .at) → SetGoing s p gs h every k ns d q (follow s at n) d q at n
+set-start s p gs h every k ns d q at n a b c l = record { high = a; few = b; clean = c; going = going-start d q _ l }
+
+-- a rule fired for a profile without its options
+pub rule-any : (m l v o : Text) (d d′ : Text) (q q′ : Cursors) (k : ℕ) (cs : List ℕ) (ws : Words) →
+    FiredRule (profileOf (textsOf m l v [])) d d′ q q′ k cs ws → FiredRule (profileOf (textsOf m l v o)) d d′ q q′ k cs ws
+rule-any m l v o d d′ q q′ k cs ws f =
+    record {
+      bytes = λ n. rw (rule-options m l v o n k cs ws) at (f .bytes n);
+      places = λ n. rw (rule-options m l v o n k cs ws) at (f .places n);
+    }
