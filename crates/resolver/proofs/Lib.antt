@@ -15,3 +15,4 @@ pub mod ValueFires
 pub mod LineFirings
 pub mod SetRuns
 pub mod SetLoops
+pub mod HeldHeadings

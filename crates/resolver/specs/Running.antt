@@ -3,7 +3,7 @@ use Prim.Native.Nat.{ℕ, _≤_}
 use mathlib.Core.Path.{_≡_}
 use mathlib.Core.List.{List, map}
 use mathlib.Core.Bool.{Bool, false, cond}
-use lib.ListN.{take}
+use lib.ListN.{length, take}
 use lib.Dec.{eqb}
 use Rattle.text.specs.Bytes.{Text, Words, anyOf}
 use Rattle.text.specs.Lines.{Line}
@@ -47,3 +47,10 @@ headingBy r = record { columns = map columnBy (take (r .left) (r .columns)); ind
 pub record FiredSet (p : Profile) (gs : Groups) (h : Heading) (every : Bool) (d d′ : Text) (q q′ : Cursors) (k : ℕ) (ls : List Line) : Type 0 where
   pub bytes : d′ ≡ runBuf d q (setFires every (members gs) p h k (rulesFrom ls))
   pub places : q′ ≡ runCur q (setFires every (members gs) p h k (rulesFrom ls))
+
+-- a heading has room for its numbers
+pub record SetSized (h : SetHeading) : Type 0 where
+  pub left : h .left ≤ 4
+  pub right : h .right ≤ 5
+  pub columns : length (h .columns) ≡ 5
+  pub components : length (h .components) ≡ 5
