@@ -16,3 +16,4 @@ pub mod LineFirings
 pub mod SetRuns
 pub mod SetLoops
 pub mod HeldHeadings
+pub mod GroupRows

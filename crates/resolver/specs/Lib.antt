@@ -7,3 +7,4 @@ pub mod Joined
 pub mod Writing
 pub mod Groups
 pub mod Running
+pub mod Rows

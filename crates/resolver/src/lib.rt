@@ -1,6 +1,7 @@
 // The resolve of a rules file for a profile.
 
 pub mod firing;
+pub mod groups;
 pub mod writing;
 
 // The next free position of each of ten regions of the buffer (base and additions of component 0, of component 1, ..), and which bases are set.
