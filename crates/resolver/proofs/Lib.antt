@@ -17,3 +17,4 @@ pub mod SetRuns
 pub mod SetLoops
 pub mod HeldHeadings
 pub mod GroupRows
+pub mod Matches
