@@ -1,20 +1,25 @@
 -- A heading held by its numbers.
-use Prim.Native.Nat.{ℕ, _+_, _-_, _≤_, _<_}
+use Prim.Native.Nat.{ℕ, zero, suc, _+_, _-_, _≤_, _<_}
 use native.Mathlib.Omega.{arith}
 use mathlib.Core.Path.{_≡_, refl, sym, ap, _∙_}
 use mathlib.Core.List.{List, [], _∷_, map}
 use mathlib.Core.Bool.{Bool, true, false, _||_, cond}
+use mathlib.Core.Logic.{_⊎_, inl, inr, ⊎-elim}
 use lib.ListN.{length, getD, take, drop, length-take, List·getD-map}
 use lib.Seq.{getD-take}
 use lib.Dec.{eqb}
 use Rattle.text.specs.Bytes.{Text, Words, anyOf}
 use Rattle.text.proofs.Lists.{or-right}
+use Rattle.profile.specs.Profile.{Profile}
+use Rattle.rules.specs.Words.{isStar}
 use Rattle.rules.specs.declared.Column.{Column}
 use Rattle.rules.specs.declared.Column.the-variants as column
 use Rattle.rules.specs.declared.SetHeading.{SetHeading}
 use Rattle.rules.specs.Headings.{Heading, columnNumber}
 use Rattle.rules.specs.Sets.{Holds}
 use Rattle.rules.specs.Faults.{rightWords}
+use Rattle.resolver.specs.Matching.{wordMatches, valueMatches, columnMatches}
+use Rattle.resolver.specs.Rows.{matchesAt}
 use Rattle.resolver.specs.Layouts.{perLayout}
 use Rattle.resolver.specs.Running.{columnBy, headingBy, SetSized}
 
@@ -62,3 +67,31 @@ module _ (r : SetHeading) (v : SetSized r) where
   pub column-at : (c : ℕ) → c < r .left → getD (headingBy r .columns) c (columnBy 0) ≡ columnBy (getD (r .columns) c 0)
   unfolding headingBy
   column-at c h = List·getD-map columnBy (take (r .left) (r .columns)) c 0 ∙ ap columnBy (getD-take (r .left) (r .columns) c 0 h)
+
+pub matches-by : (look : Text → Words) (p : Profile) (k c : ℕ) (w : Text) → matchesAt look p k c w ≡ columnMatches look p k (columnBy c) w
+unfolding matchesAt columnBy columnMatches
+matches-by look p k c w = go (eqb c 1) (eqb c 2) (eqb c 3)
+  where
+    go : (a b d : Bool) →
+        cond a (isStar w || wordMatches look w (p .model)) (cond b (valueMatches look w (getD (p .layouts) (k - 1) [])) (cond d (valueMatches look w (getD (p .variants) (k - 1) [])) (isStar w || p .anyOption (wordMatches look w)))) ≡
+        columnMatches look p k (cond a column.Model (cond b column.Layout (cond d column.Variant column.Options))) w
+    go true b d = refl
+    go false true d = refl
+    go false false true = refl
+    go false false false = refl
+
+any-at {ℓ} : {A : Type ℓ} (q : A → Bool) (xs : List A) (a : A) (c : ℕ) → c < length xs → q (getD xs c a) ≡ true → anyOf q xs ≡ true
+unfolding anyOf
+any-at q [] a c h e = absurd (omega arith)
+any-at q (x ∷ xs) a zero h e = rw e
+any-at q (x ∷ xs) a (suc c) h e = or-right (q x) (anyOf q xs) (any-at q xs a c (omega arith) e)
+
+by-layout : (c : ℕ) → (c ≡ 2) ⊎ (c ≡ 3) → perLayout (columnBy c) ≡ true
+unfolding columnBy perLayout
+by-layout c w = ⊎-elim (λ (e : c ≡ 2). rw e refl) (λ (e : c ≡ 3). rw e refl) w
+
+-- a column of layouts or variants asks for a layout
+pub layout-asked : (r : SetHeading) (v : SetSized r) (k c : ℕ) → (anyOf perLayout (headingBy r .columns) ≡ true → 1 ≤ k) → c < r .left →
+    (getD (r .columns) c 0 ≡ 2) ⊎ (getD (r .columns) c 0 ≡ 3) → 1 ≤ k
+layout-asked r v k c f h w =
+    f (any-at perLayout (headingBy r .columns) (columnBy 0) c (rw (columns-length r v) h) (ap perLayout (column-at r v c h) ∙ by-layout (getD (r .columns) c 0) w))

@@ -55,7 +55,7 @@ fn add_group(s: &[u8], names: &mut [usize; 128], groups: usize, start: usize, en
 }
 
 // Where the fence stands in the part of the file from `from` on.
-fn fence_behind(fence: usize, from: usize) -> usize
+pub fn fence_behind(fence: usize, from: usize) -> usize
     ensures { λ r. ⌜ r ≡ fence - from ⌝ }
 {
     if fence < from {
