@@ -4,7 +4,7 @@ use native.Mathlib.Omega.{arith}
 use mathlib.Core.Path.{_≡_, refl, sym, ap, _∙_}
 use mathlib.Core.List.{List, [], _∷_, _++_, map, append-nil}
 use mathlib.Core.Bool.{Bool, true, false, cond}
-use lib.ListN.{length, take, drop, drop-of-length-le}
+use lib.ListN.{length, take, drop, getD, drop-of-length-le}
 use Rattle.text.specs.declared.Place.the-variants.{Start}
 use Rattle.text.specs.Bytes.{Text, Words}
 use Rattle.text.specs.Marks.{marks}
@@ -16,14 +16,20 @@ use Rattle.profile.specs.Profile.{Profile, textsOf, profileOf}
 use Rattle.rules.specs.Headings.{Heading}
 use Rattle.rules.specs.Entries.{ignored, rule, entryOf}
 use Rattle.rules.specs.Faults.{Groups, rightWords}
+use Rattle.rules.specs.declared.Split.{Split}
+use Rattle.rules.specs.declared.SetHeading.{SetHeading}
+use Rattle.rules.specs.Splitting.{wordsOf, IsSplit}
 use Rattle.rules.specs.Checking.{lineOf, presentOf, checkFrom}
+use Rattle.rules.proofs.CheckSteps.{line-read, line-high, line-on, line-few}
 use Rattle.values.specs.Spread.{expanded}
 use Rattle.values.proofs.Profiles.{expanded-options}
 use Rattle.resolver.specs.declared.Cursors.{Cursors}
-use Rattle.resolver.specs.Matching.{members, ruleMatches}
+use Rattle.resolver.specs.Matching.{members, columnMatches, ruleMatches}
+use Rattle.resolver.specs.Rows.{matchesAt}
 use Rattle.resolver.specs.Firings.{Firing, fired, ruleFires, setFires}
 use Rattle.resolver.specs.Writing.{Low, runBuf, runCur}
-use Rattle.resolver.specs.Running.{FiredRule, rulesFrom, FiredSet}
+use Rattle.resolver.specs.Running.{FiredRule, rulesFrom, columnBy, headingBy, SetSized, FiredSet}
+use Rattle.resolver.proofs.HeldHeadings.{columns-length, components-length, components-are, right-are, column-at, matches-by}
 use Rattle.resolver.proofs.Going.{Going, going-start, going-more, going-end}
 use Rattle.resolver.proofs.SetRuns.{CleanLine, clean-line, run-end, run-heading, run-ignored, run-miss, run-hit}
 
@@ -119,3 +125,51 @@ rule-any m l v o d d′ q q′ k cs ws f =
       bytes = λ n. rw (rule-options m l v o n k cs ws) at (f .bytes n);
       places = λ n. rw (rule-options m l v o n k cs ws) at (f .places n);
     }
+
+-- a line that is no heading, opened and split
+pub record RuleRead (s : Text) (at n at′ n′ : ℕ) (x : Text) : Type 0 where
+  pub read : follow s at n ≡ lineOf n false (wordsOf x) ∷ follow s at′ n′
+  pub high : at′ ≤ length s
+  pub few : n′ ≤ at′ + 1
+  pub on : at < at′
+
+pub rule-read : (s u : Text) (at n : ℕ) (h : Bool) (from m : ℕ) (x : Text) (r : Split) → x ≡ drop from s → at < length s → h ≡ false →
+    Opens s at n h from m → IsSplit false x u r → RuleRead s at n (from + r .next) (m + r .line) x
+rule-read s u at n h from m x r xe lt hf o v =
+    let o′ : Opens s at n false from m = rw hf at o in
+    let v′ : IsSplit false (drop from s) u r = rw xe at v in
+    record {
+      read = rw xe (line-read s u at n false from m r lt o′ v′);
+      high = line-high s u at n false from m r lt o′ v′;
+      few = line-few s u at n false from m r lt o′ v′;
+      on = line-on s u at n false from m r lt o′ v′;
+    }
+
+-- a column of the code's heading
+pub column-told : (r : SetHeading) (w : SetSized r) (look : Text → Words) (p : Profile) (k c : ℕ) (ws : Words) (x : Text) (b : Bool) → c < r .left →
+    b ≡ matchesAt look p k (getD (r .columns) c 0) x → x ≡ getD ws c [] → columnMatches look p k (getD (headingBy r .columns) c (columnBy 0)) (getD ws c []) ≡ b
+column-told r w look p k c ws x b h e f =
+    rw (column-at r w c h, ← f) (sym (e ∙ matches-by look p k (getD (r .columns) c 0) x))
+
+fired-as : (p : Profile) (d d′ : Text) (q q′ : Cursors) (k : ℕ) (cs cs′ : List ℕ) (ws ws′ : Words) → cs ≡ cs′ → ws ≡ ws′ →
+    FiredRule p d d′ q q′ k cs ws → FiredRule p d d′ q q′ k cs′ ws′
+fired-as p d d′ q q′ k cs cs′ ws ws′ e f v =
+    record {
+      bytes = λ l. v .bytes l ∙ ap (runBuf d q) (ap (λ (x : List ℕ). ruleFires p l k x ws) e ∙ ap (ruleFires p l k cs′) f);
+      places = λ l. v .places l ∙ ap (runCur q) (ap (λ (x : List ℕ). ruleFires p l k x ws) e ∙ ap (ruleFires p l k cs′) f);
+    }
+
+-- the right words of a rule with as many words as its heading asks
+pub rule-told : (r : SetHeading) (w : SetSized r) (m l v o : Text) (d d′ : Text) (q q′ : Cursors) (k n : ℕ) (ws : Words) → n ≡ r .left + 1 + r .right →
+    FiredRule (profileOf (textsOf m l v [])) d d′ q q′ k (take (n - (r .left + 1)) (r .components)) (drop (r .left + 1) ws) →
+    FiredRule (profileOf (textsOf m l v o)) d d′ q q′ k (headingBy r .components) (rightWords (headingBy r) ws)
+rule-told r w m l v o d d′ q q′ k n ws e f =
+    let z : n - (r .left + 1) ≡ r .right = omega arith in
+    fired-as (profileOf (textsOf m l v o)) d d′ q q′ k (take (n - (r .left + 1)) (r .components)) (headingBy r .components) (drop (r .left + 1) ws) (rightWords (headingBy r) ws)
+    (ap (λ (i : ℕ). take i (r .components)) z ∙ sym (components-are r w))
+    (sym (right-are r w ws))
+    (rule-any m l v o d d′ q q′ k (take (n - (r .left + 1)) (r .components)) (drop (r .left + 1) ws) f)
+
+pub words-asked : (r : SetHeading) (w : SetSized r) (ns : List Text) (n : ℕ) (ws : Words) (ls : List Line) → CleanLine ns (headingBy r) n ws ls → (length ws ≡ 0 → ⊥) →
+    length ws ≡ r .left + 1 + r .right
+words-asked r w ns n ws ls c z = c .count z ∙ rw (columns-length r w, components-length r w)

@@ -1,0 +1,125 @@
+// The sets of a file run for a profile.
+ghost use mathlib.Core.Path.{_≡_};
+ghost use mathlib.Core.List.{[]};
+ghost use mathlib.Core.Bool.{true};
+ghost use Prim.Native.Nat.{_+_, _≤_, _<_};
+ghost use lib.ListN.{length};
+ghost use Rattle.text.specs.Limits.{mostOptions};
+ghost use Rattle.text.specs.Bytes.{anyOf};
+ghost use Rattle.text.specs.Reading.{Table, Fenced, follow};
+ghost use Rattle.output.specs.Store.{farthest};
+ghost use Rattle.profile.specs.Profile.{fields, optionsOf, textsOf, profileOf};
+ghost use Rattle.profile.specs.Listing.{Listed};
+ghost use Rattle.rules.specs.Checking.{Named, presentOf, checkFrom, namesAt};
+ghost use Rattle.values.specs.Filling.{Short};
+ghost use Rattle.resolver.specs.Groups.{groupsAt, Rowed};
+ghost use Rattle.resolver.specs.Layouts.{perLayout};
+ghost use Rattle.resolver.specs.Writing.{Low};
+ghost use Rattle.resolver.specs.Running.{headingBy, SetSized, FiredSet};
+use super::Cursors;
+use super::firing::fire_rule;
+use super::matching::column_matches;
+use rules::SetHeading;
+use rules::check::fence_behind;
+use rules::lines::split_line;
+use rules::sets::word;
+use text::reader::open_line;
+
+// The rules of a set from a line on, at the layout k: the first that matches fires, or every one where the set has an option column.
+pub fn run_set(
+    s: &[u8],
+    t: &[u8; 512],
+    fence: usize,
+    places: &mut [usize],
+    names: &[usize; 128],
+    rows: &[bool; 640],
+    groups: usize,
+    h: SetHeading,
+    every: bool,
+    model: &[u8],
+    layouts: &[u8],
+    variants: &[u8],
+    options: &[u8],
+    table: &[usize; 128],
+    listed: usize,
+    n: usize,
+    k: usize,
+    start: usize,
+    number: usize,
+    scratch: &mut [u8],
+    buf: &mut [u8],
+    q: Cursors,
+) -> Cursors
+    requires { ⌜ Table (now t) × Fenced (now s) fence × (length (now places) ≡ 20) × Named (now s) (now names) groups
+        × Rowed (profileOf (textsOf (now model) (now layouts) (now variants) (now options))) (now s) (now names) (now rows) groups
+        × SetSized h × Listed (now options) (now table) listed × (length (optionsOf (now options)) ≤ mostOptions)
+        × (n ≡ length (fields (now layouts))) × (1 ≤ n) × (n < 100) × (k ≤ 4) × (anyOf perLayout (headingBy h .columns) ≡ true → 1 ≤ k)
+        × Short (now model) (now layouts) (now variants)
+        × (8192 ≤ length (now scratch)) × (length (now scratch) ≤ farthest) × (length (now buf) ≤ farthest) × Low (q .at)
+        × (start ≤ length (now s)) × (number ≤ start + 1)
+        × (checkFrom (namesAt (now s) (now names) groups) (presentOf (headingBy h)) (follow (now s) start number) ≡ []) ⌝ }
+    ensures { λ r. ⌜ FiredSet (profileOf (textsOf (now (model .entry)) (now (layouts .entry)) (now (variants .entry)) (now (options .entry))))
+        (groupsAt (now (s .entry)) (now (names .entry)) groups) (headingBy h) every (now (buf .entry)) (now (buf .exit)) q r k (follow (now (s .entry)) start number) ⌝ }
+{
+    let left = h.left;
+    let components = h.components;
+    let mut m = q;
+    let mut at = start;
+    let mut line = number;
+    'rules: while at < s.len() {
+        let o = open_line(s, t, at, line);
+        if o.heading {
+            break 'rules;
+        }
+        let from = o.at;
+        let w = &s[from..];
+        let l = split_line(false, w, t, fence_behind(fence, from), places);
+        at = from + l.next;
+        line = o.line + l.line;
+        let words = l.tally.count;
+        if words == 0 {
+            continue 'rules;
+        }
+        let mut c: usize = 0;
+        while c < left {
+            let x = word(w, places, c);
+            if !column_matches(
+                h.columns[c],
+                x,
+                k,
+                s,
+                names,
+                rows,
+                groups,
+                model,
+                layouts,
+                variants,
+                options,
+                table,
+                listed,
+            ) {
+                continue 'rules;
+            }
+            c += 1;
+        }
+        m = fire_rule(
+            w,
+            places,
+            left + 1,
+            words,
+            components,
+            model,
+            layouts,
+            variants,
+            n,
+            k,
+            scratch,
+            buf,
+            m,
+        );
+        if !every {
+            break 'rules;
+        }
+    }
+    m
+}
