@@ -18,3 +18,4 @@ pub mod SetLoops
 pub mod HeldHeadings
 pub mod GroupRows
 pub mod Matches
+pub mod RangeLoops

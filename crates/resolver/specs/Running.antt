@@ -5,14 +5,14 @@ use mathlib.Core.List.{List, map}
 use mathlib.Core.Bool.{Bool, false, cond}
 use lib.ListN.{length, take}
 use lib.Dec.{eqb}
-use Rattle.text.specs.Bytes.{Text, Words, anyOf}
+use Rattle.text.specs.Bytes.{Text, Words, anyOf, concatMap}
 use Rattle.text.specs.Lines.{Line}
 use Rattle.text.specs.Words.{tooLong}
 use Rattle.profile.specs.Profile.{Profile}
 use Rattle.rules.specs.declared.Column.{Column}
 use Rattle.rules.specs.declared.Column.the-variants as column
 use Rattle.rules.specs.declared.SetHeading.{SetHeading}
-use Rattle.rules.specs.Headings.{Heading}
+use Rattle.rules.specs.Headings.{Heading, upFrom}
 use Rattle.rules.specs.Sections.{Rule, sections}
 use Rattle.rules.specs.Faults.{Groups}
 use Rattle.resolver.specs.declared.Cursors.{Cursors}
@@ -54,3 +54,8 @@ pub record SetSized (h : SetHeading) : Type 0 where
   pub right : h .right ≤ 5
   pub columns : length (h .columns) ≡ 5
   pub components : length (h .components) ≡ 5
+
+-- a set run at the layouts k to k + j - 1
+pub record FiredRange (p : Profile) (gs : Groups) (h : Heading) (every : Bool) (d d′ : Text) (q q′ : Cursors) (j k : ℕ) (ls : List Line) : Type 0 where
+  pub bytes : d′ ≡ runBuf d q (concatMap (λ i. setFires every (members gs) p h i (rulesFrom ls)) (upFrom j k))
+  pub places : q′ ≡ runCur q (concatMap (λ i. setFires every (members gs) p h i (rulesFrom ls)) (upFrom j k))

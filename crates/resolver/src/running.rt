@@ -15,7 +15,7 @@ ghost use Rattle.values.specs.Filling.{Short};
 ghost use Rattle.resolver.specs.Groups.{groupsAt, Rowed};
 ghost use Rattle.resolver.specs.Layouts.{perLayout};
 ghost use Rattle.resolver.specs.Writing.{Low};
-ghost use Rattle.resolver.specs.Running.{headingBy, SetSized, FiredSet};
+ghost use Rattle.resolver.specs.Running.{headingBy, SetSized, FiredSet, FiredRange};
 use super::Cursors;
 use super::firing::fire_rule;
 use super::matching::column_matches;
@@ -120,6 +120,75 @@ pub fn run_set(
         if !every {
             break 'rules;
         }
+    }
+    m
+}
+
+// A set run at each of `count` layouts from `first` on, in ascending order.
+pub fn run_layouts(
+    s: &[u8],
+    t: &[u8; 512],
+    fence: usize,
+    places: &mut [usize],
+    names: &[usize; 128],
+    rows: &[bool; 640],
+    groups: usize,
+    h: SetHeading,
+    every: bool,
+    model: &[u8],
+    layouts: &[u8],
+    variants: &[u8],
+    options: &[u8],
+    table: &[usize; 128],
+    listed: usize,
+    n: usize,
+    first: usize,
+    count: usize,
+    start: usize,
+    number: usize,
+    scratch: &mut [u8],
+    buf: &mut [u8],
+    q: Cursors,
+) -> Cursors
+    requires { ⌜ Table (now t) × Fenced (now s) fence × (length (now places) ≡ 20) × Named (now s) (now names) groups
+        × Rowed (profileOf (textsOf (now model) (now layouts) (now variants) (now options))) (now s) (now names) (now rows) groups
+        × SetSized h × Listed (now options) (now table) listed × (length (optionsOf (now options)) ≤ mostOptions)
+        × (n ≡ length (fields (now layouts))) × (1 ≤ n) × (n < 100) × (first + count ≤ 5) × (anyOf perLayout (headingBy h .columns) ≡ true → 1 ≤ first)
+        × Short (now model) (now layouts) (now variants)
+        × (8192 ≤ length (now scratch)) × (length (now scratch) ≤ farthest) × (length (now buf) ≤ farthest) × Low (q .at)
+        × (start ≤ length (now s)) × (number ≤ start + 1)
+        × (checkFrom (namesAt (now s) (now names) groups) (presentOf (headingBy h)) (follow (now s) start number) ≡ []) ⌝ }
+    ensures { λ r. ⌜ FiredRange (profileOf (textsOf (now (model .entry)) (now (layouts .entry)) (now (variants .entry)) (now (options .entry))))
+        (groupsAt (now (s .entry)) (now (names .entry)) groups) (headingBy h) every (now (buf .entry)) (now (buf .exit)) q r count first (follow (now (s .entry)) start number) ⌝ }
+{
+    let mut m = q;
+    let mut j: usize = 0;
+    while j < count {
+        m = run_set(
+            s,
+            t,
+            fence,
+            places,
+            names,
+            rows,
+            groups,
+            h,
+            every,
+            model,
+            layouts,
+            variants,
+            options,
+            table,
+            listed,
+            n,
+            first + j,
+            start,
+            number,
+            scratch,
+            buf,
+            m,
+        );
+        j += 1;
     }
     m
 }
