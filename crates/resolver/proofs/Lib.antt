@@ -19,3 +19,4 @@ pub mod HeldHeadings
 pub mod GroupRows
 pub mod Matches
 pub mod RangeLoops
+pub mod Filling
