@@ -20,3 +20,4 @@ pub mod GroupRows
 pub mod Matches
 pub mod RangeLoops
 pub mod Filling
+pub mod LayoutRange

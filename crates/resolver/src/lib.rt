@@ -4,6 +4,7 @@ pub mod firing;
 pub mod groups;
 pub mod matching;
 pub mod running;
+pub mod ranges;
 pub mod writing;
 
 // The next free position of each of ten regions of the buffer (base and additions of component 0, of component 1, ..), and which bases are set.
@@ -16,4 +17,10 @@ pub struct Cursors {
 pub struct Sums {
     pub at: [u32; 10],
     pub total: u32,
+}
+
+// Layouts by their numbers: `count` of them, from `first` on.
+pub struct Range {
+    pub first: usize,
+    pub count: usize,
 }
