@@ -3,8 +3,8 @@
 pub mod firing;
 pub mod groups;
 pub mod matching;
-pub mod running;
 pub mod ranges;
+pub mod running;
 pub mod writing;
 
 // The next free position of each of ten regions of the buffer (base and additions of component 0, of component 1, ..), and which bases are set.
