@@ -4,11 +4,11 @@ use native.Mathlib.Omega.{arith}
 use native.Mathlib.Numerals.{add-one}
 use mathlib.Core.Path.{_≡_, refl, sym, ap, _∙_}
 use mathlib.Core.List.{List, [], _∷_, map}
-use mathlib.Core.Bool.{Bool, true, false, _||_, cond, false≢true}
+use mathlib.Core.Bool.{Bool, true, false, _||_, _&&_, cond}
 use lib.ListN.{length, getD, take, drop}
 use lib.Seq.{drop-cons}
 use lib.Dec.{eqb, ltb, leb}
-use borrow.Author.Tests.{eq-eqb, ne-eqb, eqb-false, lt-ltb, le-ltb, le-leb, lt-leb}
+use borrow.Author.Tests.{eq-eqb, ne-eqb, eqb-false, leb-true, lt-ltb, le-ltb, le-leb, lt-leb}
 use Rattle.text.specs.Bytes.{anyOf}
 use Rattle.rules.specs.declared.Column.{Column}
 use Rattle.rules.specs.declared.Column.the-variants as column
@@ -20,6 +20,7 @@ use Rattle.resolver.specs.declared.Range.{Range}
 use Rattle.resolver.specs.Layouts.{layoutsAt, perLayout, layoutsOf}
 use Rattle.resolver.specs.Matching.{isOptions}
 use Rattle.resolver.specs.Running.{columnBy, headingBy}
+use Rattle.resolver.specs.Ranges.{FromOne}
 
 -- what a column is by its number
 
@@ -169,3 +170,67 @@ module _ (h : SetHeading) (n : ℕ) where
   pub range-once : anyOf perLayout (headingBy h .columns) ≡ false → upFrom 1 0 ≡ layoutsOf n (headingBy h)
   unfolding layoutsOf headingBy
   range-once e = rw e (up-one 0)
+
+-- ranges of the same layouts are the same
+
+up-length : (c f : ℕ) → length (upFrom c f) ≡ c
+unfolding upFrom
+up-length zero f = refl
+up-length (suc c) f = ap suc (up-length c (f + 1))
+
+up-head : (c f : ℕ) → 0 < c → getD (upFrom c f) 0 0 ≡ f
+unfolding upFrom
+up-head zero f l = absurd (omega arith)
+up-head (suc c) f l = refl
+
+up-count : (c f c′ f′ : ℕ) → upFrom c f ≡ upFrom c′ f′ → c ≡ c′
+up-count c f c′ f′ e = sym (up-length c f) ∙ (ap length e ∙ up-length c′ f′)
+
+pub up-same : (c f c′ f′ : ℕ) → 0 < c → upFrom c f ≡ upFrom c′ f′ → (c ≡ c′) × (f ≡ f′)
+up-same c f c′ f′ l e =
+    let a = up-count c f c′ f′ e in
+    let m : 0 < c′ = omega (arith, a) in
+    (a, sym (up-head c f l) ∙ (ap (λ (r : List ℕ). getD r 0 0) e ∙ up-head c′ f′ m))
+
+-- each layout of an index is one of the n
+
+module _ (n c f : ℕ) (one : 1 ≤ n) (some : 0 < c) where
+  fits : (c′ f′ : ℕ) → 1 ≤ f′ → f′ + c′ ≤ n + 1 → upFrom c f ≡ upFrom c′ f′ → (1 ≤ f) × (f + c ≤ n + 1)
+  fits c′ f′ a b e = let s = up-same c f c′ f′ some e in rw (s .0, s .1) (a, b)
+
+  none : upFrom c f ≡ [] → (1 ≤ f) × (f + c ≤ n + 1)
+  none e = let s = up-same c f 0 1 some (e ∙ sym (up-none 1)) in absurd (omega (arith, s .0))
+
+  lone : (t : Bool) → upFrom c f ≡ cond t (1 ∷ []) [] → (1 ≤ f) × (f + c ≤ n + 1)
+  lone true e = fits 1 1 (omega arith) (omega arith) (e ∙ sym (up-one 1))
+  lone false e = none e
+
+  among : (k : ℕ) → 1 ≤ k → (t : Bool) → leb k n ≡ t → (u : Bool) → upFrom c f ≡ cond (u && t) (k ∷ []) [] → (1 ≤ f) × (f + c ≤ n + 1)
+  among k h true l true e = let m = leb-true k n l in fits 1 k h (omega (arith, m)) (e ∙ sym (up-one k))
+  among k h true l false e = none e
+  among k h false l true e = none e
+  among k h false l false e = none e
+
+  index-within : (i : Index) → FromOne i → upFrom c f ≡ layoutsAt n i → (1 ≤ f) × (f + c ≤ n + 1)
+  unfolding layoutsAt
+  index-within index.Absent h e = lone (eqb n 1) e
+  index-within index.Single h e = lone (eqb n 1) e
+  index-within (index.Numbered k) h e = among k (h k refl) (leb k n) refl (ltb 1 n) e
+  index-within index.First h e = fits 1 1 (omega arith) (omega arith) (e ∙ sym (up-one 1))
+  index-within index.Later h e = fits (n - 1) 2 (omega arith) (omega arith) e
+  index-within index.Any h e = fits n 1 (omega arith) (omega arith) e
+  index-within index.Wrong h e = none e
+
+-- the range of a heading, for its caller
+
+module _ (h : SetHeading) (n : ℕ) (r : Range) (e : upFrom (r .count) (r .first) ≡ layoutsOf n (headingBy h)) where
+  pub range-within : anyOf perLayout (headingBy h .columns) ≡ true → FromOne (h .index) → 1 ≤ n → 0 < r .count → (1 ≤ r .first) × (r .first + r .count ≤ n + 1)
+  unfolding layoutsOf headingBy
+  range-within t i one some = index-within n (r .count) (r .first) one some (h .index) i (e ∙ rw t refl)
+
+  pub range-single : anyOf perLayout (headingBy h .columns) ≡ false → (r .first ≡ 0) × (r .count ≡ 1)
+  unfolding layoutsOf headingBy
+  range-single t =
+      let q : upFrom (r .count) (r .first) ≡ upFrom 1 0 = e ∙ (rw t refl ∙ sym (up-one 0)) in
+      let l = up-count (r .count) (r .first) 1 0 q in
+      (up-same (r .count) (r .first) 1 0 (omega (arith, l)) q .1, l)

@@ -8,3 +8,4 @@ pub mod Writing
 pub mod Groups
 pub mod Running
 pub mod Rows
+pub mod Ranges

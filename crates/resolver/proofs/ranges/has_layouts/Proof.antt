@@ -1,9 +1,7 @@
 use borrow.Author.Needs.{needs}
 use Rattle.resolver.specs.Running.{headingBy}
-use borrow.Author.Needs.{needs}
 use Rattle.resolver.proofs.ranges.has_layouts.Statement.{statement}
 use Rattle.resolver.proofs.ranges.has_layouts.Tie as tie
-use Rattle.resolver.proofs.ranges.layouts_among.Reads as layouts-among-reads
 
 layouts-among-requires : tie.Need-layouts-among-requires
 layouts-among-requires c κs = search needs

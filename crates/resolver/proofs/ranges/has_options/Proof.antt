@@ -1,9 +1,7 @@
 use borrow.Author.Needs.{needs}
 use Rattle.resolver.specs.Running.{headingBy}
-use borrow.Author.Needs.{needs}
 use Rattle.resolver.proofs.ranges.has_options.Statement.{statement}
 use Rattle.resolver.proofs.ranges.has_options.Tie as tie
-use Rattle.resolver.proofs.ranges.options_among.Reads as options-among-reads
 
 options-among-requires : tie.Need-options-among-requires
 options-among-requires c κs = search needs

@@ -1,11 +1,8 @@
 use borrow.Author.Needs.{needs}
 use mathlib.Core.Path.{sym, _∙_}
 use Rattle.resolver.proofs.LayoutRange.{range-layouts, range-once}
-use borrow.Author.Needs.{needs}
 use Rattle.resolver.proofs.ranges.layout_range.Statement.{statement}
 use Rattle.resolver.proofs.ranges.layout_range.Tie as tie
-use Rattle.resolver.proofs.ranges.has_layouts.Reads as has-layouts-reads
-use Rattle.resolver.proofs.ranges.range_of.Reads as range-of-reads
 
 has-layouts-requires : tie.Need-has-layouts-requires
 has-layouts-requires c κs = search needs

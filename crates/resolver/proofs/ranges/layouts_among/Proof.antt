@@ -6,7 +6,6 @@ use Rattle.resolver.specs.Layouts.{perLayout}
 use Rattle.resolver.proofs.LayoutRange.{ColumnsFrom, columns-start, columns-more, columns-hit, columns-end}
 use Rattle.resolver.proofs.ranges.layouts_among.Statement.{statement}
 use Rattle.resolver.proofs.ranges.layouts_among.Tie as tie
-use Rattle.resolver.proofs.ranges.is_per_layout.Reads as is-per-layout-reads
 
 abbrev Inv-loop : tie.InvT-loop
 Inv-loop left columns i₀ i = ColumnsFrom perLayout columns left i

@@ -6,7 +6,6 @@ use Rattle.resolver.specs.Matching.{isOptions}
 use Rattle.resolver.proofs.LayoutRange.{ColumnsFrom, columns-start, columns-more, columns-hit, columns-end}
 use Rattle.resolver.proofs.ranges.options_among.Statement.{statement}
 use Rattle.resolver.proofs.ranges.options_among.Tie as tie
-use Rattle.resolver.proofs.ranges.is_options.Reads as is-options-reads
 
 abbrev Inv-loop : tie.InvT-loop
 Inv-loop left columns i₀ i = ColumnsFrom isOptions columns left i

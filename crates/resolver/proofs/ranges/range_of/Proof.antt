@@ -1,9 +1,7 @@
 use borrow.Author.Needs.{needs}
 use Rattle.resolver.proofs.LayoutRange.{at-absent, at-single, at-first, at-later-none, at-later, at-any, at-wrong, at-number, at-lone, at-beyond}
-use borrow.Author.Needs.{needs}
 use Rattle.resolver.proofs.ranges.range_of.Statement.{statement}
 use Rattle.resolver.proofs.ranges.range_of.Tie as tie
-use Rattle.resolver.proofs.ranges.alone.Reads as alone-reads
 
 enum-told : tie.Need-enum-told
 enum-told c = search needs
