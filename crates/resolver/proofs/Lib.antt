@@ -21,3 +21,4 @@ pub mod Matches
 pub mod RangeLoops
 pub mod Filling
 pub mod LayoutRange
+pub mod Noting

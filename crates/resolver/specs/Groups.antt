@@ -9,6 +9,7 @@ use Rattle.text.specs.Bytes.{Text, Words, same, anyOf, part}
 use Rattle.text.specs.Reading.{left}
 use Rattle.profile.specs.Profile.{Profile}
 use Rattle.rules.specs.Faults.{Group, Groups}
+use Rattle.rules.specs.Checking.{Named, namesAt}
 
 -- The first n groups of the file s, the last first. The table holds start and end of each name; behind the name stand `=` and the group's words.
 unfoldable pub groupsAt : Text → List ℕ → ℕ → Groups
@@ -32,3 +33,10 @@ asked p j ms =
 pub record Rowed (p : Profile) (s : Text) (t : List ℕ) (rows : List Bool) (n : ℕ) : Type 0 where
   pub size : length rows ≡ 640
   pub row : (g j : ℕ) → g < n → j < 10 → getD rows (10 * g + j) false ≡ asked p j (drop 1 (left s (getD t (2 * g + 1) 0)))
+
+-- one group more, whose name stands from a to e
+pub record Noted (p : Profile) (s : Text) (t t′ : List ℕ) (rows′ : List Bool) (n a e : ℕ) : Type 0 where
+  pub named : Named s t′ (n + 1)
+  pub rowed : Rowed p s t′ rows′ (n + 1)
+  pub names : namesAt s t′ (n + 1) ≡ part s a e ∷ namesAt s t n
+  pub groups : groupsAt s t′ (n + 1) ≡ record { name = part s a e; members = drop 1 (left s e) } ∷ groupsAt s t n

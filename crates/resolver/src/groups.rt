@@ -3,12 +3,12 @@ ghost use mathlib.Core.Path.{_≡_};
 ghost use mathlib.Core.List.{[], _∷_};
 ghost use Prim.Native.Nat.{_<_, _≤_};
 ghost use lib.ListN.{length};
-ghost use Rattle.text.specs.Limits.{mostOptions};
+ghost use Rattle.text.specs.Limits.{mostOptions, mostGroups};
 ghost use Rattle.text.specs.Reading.{left, Table, Fenced, Within};
 ghost use Rattle.profile.specs.Profile.{textsOf, profileOf, optionsOf};
 ghost use Rattle.profile.specs.Listing.{Listed};
 ghost use Rattle.rules.specs.Checking.{Named};
-ghost use Rattle.resolver.specs.Groups.{asked};
+ghost use Rattle.resolver.specs.Groups.{asked, Rowed, Noted};
 ghost use Rattle.resolver.specs.Rows.{Told, ofGroup, Marked, Cleared, RowFilled};
 use profile::fields::field;
 use profile::table::has_option;
@@ -211,4 +211,51 @@ pub fn fill_row(
         ),
         Next::Stop { next: _, line: _ } => {}
     }
+}
+
+// One group more: its name's place is kept, and its row filled.
+pub fn note_group(
+    s: &[u8],
+    t: &[u8; 512],
+    fence: usize,
+    start: usize,
+    end: usize,
+    names: &mut [usize; 128],
+    model: &[u8],
+    layouts: &[u8],
+    variants: &[u8],
+    options: &[u8],
+    table: &[usize; 128],
+    count: usize,
+    rows: &mut [bool; 640],
+    g: usize,
+)
+    requires { ⌜ Table (now t)
+        × Fenced (now s) fence
+        × (start ≤ end)
+        × (end ≤ length (now s))
+        × Named (now s) (now names) g
+        × Listed (now options) (now table) count
+        × (length (optionsOf (now options)) ≤ mostOptions)
+        × (g < mostGroups)
+        × Rowed (profileOf (textsOf (now model) (now layouts) (now variants) (now options))) (now s) (now names) (now rows) g ⌝ }
+    ensures { λ _. ⌜ Noted (profileOf (textsOf (now (model .entry)) (now (layouts .entry)) (now (variants .entry)) (now (options .entry))))
+        (now (s .entry)) (now (names .entry)) (now (names .exit)) (now (rows .exit)) g start end ⌝ }
+{
+    names[2 * g] = start;
+    names[2 * g + 1] = end;
+    fill_row(
+        s,
+        t,
+        fence,
+        end,
+        model,
+        layouts,
+        variants,
+        options,
+        table,
+        count,
+        rows,
+        g,
+    );
 }

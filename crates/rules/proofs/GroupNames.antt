@@ -68,10 +68,10 @@ module _ (s t : Text) (n a e : ℕ) (v : Named s t n) (l : n < mostGroups) where
       let o = pair-old t n a e j (omega arith) in
       rw (names-suc s (withPair t n a e) j, names-suc s t j, o .0, o .1, put-names j (omega arith))
 
-  name-put : namesAt s (withPair t n a e) (n + 1) ≡ part s a e ∷ namesAt s t n
+  pub name-put : namesAt s (withPair t n a e) (n + 1) ≡ part s a e ∷ namesAt s t n
   name-put = rw (add-one n, names-suc s (withPair t n a e) n, new .0, new .1, put-names n (omega arith))
 
-  named-put : a ≤ e → e ≤ length s → Named s (withPair t n a e) (n + 1)
+  pub named-put : a ≤ e → e ≤ length s → Named s (withPair t n a e) (n + 1)
   named-put h k = record { size = pair-length t n a e ∙ v .size; few = omega arith; within = λ j m. go j m (ltb j n) refl }
     where
       go : (j : ℕ) → j < n + 1 → (b : Bool) → ltb j n ≡ b →
