@@ -22,3 +22,4 @@ pub mod RangeLoops
 pub mod Filling
 pub mod LayoutRange
 pub mod Noting
+pub mod HeadingRuns

@@ -13,11 +13,11 @@ use Rattle.rules.specs.declared.Column.{Column}
 use Rattle.rules.specs.declared.Column.the-variants as column
 use Rattle.rules.specs.declared.SetHeading.{SetHeading}
 use Rattle.rules.specs.Headings.{Heading, upFrom}
-use Rattle.rules.specs.Sections.{Rule, sections}
+use Rattle.rules.specs.Sections.{Rule, applies, sections}
 use Rattle.rules.specs.Faults.{Groups}
 use Rattle.resolver.specs.declared.Cursors.{Cursors}
 use Rattle.resolver.specs.Matching.{members}
-use Rattle.resolver.specs.Firings.{Firing, ruleFires, setFires, firings}
+use Rattle.resolver.specs.Firings.{Firing, ruleFires, setFires, headFires, firings}
 use Rattle.resolver.specs.Writing.{runBuf, runCur}
 
 -- no word is too long
@@ -59,3 +59,8 @@ pub record SetSized (h : SetHeading) : Type 0 where
 pub record FiredRange (p : Profile) (gs : Groups) (h : Heading) (every : Bool) (d d′ : Text) (q q′ : Cursors) (j k : ℕ) (ls : List Line) : Type 0 where
   pub bytes : d′ ≡ runBuf d q (concatMap (λ i. setFires every (members gs) p h i (rulesFrom ls)) (upFrom j k))
   pub places : q′ ≡ runCur q (concatMap (λ i. setFires every (members gs) p h i (rulesFrom ls)) (upFrom j k))
+
+-- a set run at all its layouts
+pub record FiredHeading (p : Profile) (gs : Groups) (h : Heading) (d d′ : Text) (q q′ : Cursors) (ls : List Line) : Type 0 where
+  pub bytes : d′ ≡ runBuf d q (headFires gs p (applies h) (rulesFrom ls))
+  pub places : q′ ≡ runCur q (headFires gs p (applies h) (rulesFrom ls))

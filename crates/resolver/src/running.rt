@@ -15,10 +15,13 @@ ghost use Rattle.values.specs.Filling.{Short};
 ghost use Rattle.resolver.specs.Groups.{groupsAt, Rowed};
 ghost use Rattle.resolver.specs.Layouts.{perLayout};
 ghost use Rattle.resolver.specs.Writing.{Low};
-ghost use Rattle.resolver.specs.Running.{headingBy, SetSized, FiredSet, FiredRange};
+ghost use Rattle.resolver.specs.Running.{headingBy, SetSized, FiredSet, FiredRange, FiredHeading};
+ghost use Rattle.resolver.specs.Ranges.{FromOne};
 use super::Cursors;
 use super::firing::fire_rule;
 use super::matching::column_matches;
+use super::ranges::has_options;
+use super::ranges::layout_range;
 use rules::SetHeading;
 use rules::check::fence_behind;
 use rules::lines::split_line;
@@ -191,4 +194,70 @@ pub fn run_layouts(
         j += 1;
     }
     m
+}
+
+// A set run at all its layouts.
+pub fn run_heading(
+    s: &[u8],
+    t: &[u8; 512],
+    fence: usize,
+    places: &mut [usize],
+    names: &[usize; 128],
+    rows: &[bool; 640],
+    groups: usize,
+    h: SetHeading,
+    model: &[u8],
+    layouts: &[u8],
+    variants: &[u8],
+    options: &[u8],
+    table: &[usize; 128],
+    listed: usize,
+    n: usize,
+    start: usize,
+    number: usize,
+    scratch: &mut [u8],
+    buf: &mut [u8],
+    q: Cursors,
+) -> Cursors
+    requires { ⌜ Table (now t) × Fenced (now s) fence × (length (now places) ≡ 20) × Named (now s) (now names) groups
+        × Rowed (profileOf (textsOf (now model) (now layouts) (now variants) (now options))) (now s) (now names) (now rows) groups
+        × SetSized h × FromOne (h .index) × Listed (now options) (now table) listed × (length (optionsOf (now options)) ≤ mostOptions)
+        × (n ≡ length (fields (now layouts))) × (1 ≤ n) × (n ≤ 4)
+        × Short (now model) (now layouts) (now variants)
+        × (8192 ≤ length (now scratch)) × (length (now scratch) ≤ farthest) × (length (now buf) ≤ farthest) × Low (q .at)
+        × (start ≤ length (now s)) × (number ≤ start + 1)
+        × (checkFrom (namesAt (now s) (now names) groups) (presentOf (headingBy h)) (follow (now s) start number) ≡ []) ⌝ }
+    ensures { λ r. ⌜ FiredHeading (profileOf (textsOf (now (model .entry)) (now (layouts .entry)) (now (variants .entry)) (now (options .entry))))
+        (groupsAt (now (s .entry)) (now (names .entry)) groups) (headingBy h) (now (buf .entry)) (now (buf .exit)) q r (follow (now (s .entry)) start number) ⌝ }
+{
+    let range = layout_range(h, n);
+    if range.count == 0 {
+        return q;
+    }
+    let every = has_options(h);
+    run_layouts(
+        s,
+        t,
+        fence,
+        places,
+        names,
+        rows,
+        groups,
+        h,
+        every,
+        model,
+        layouts,
+        variants,
+        options,
+        table,
+        listed,
+        n,
+        range.first,
+        range.count,
+        start,
+        number,
+        scratch,
+        buf,
+        q,
+    )
 }
