@@ -23,3 +23,5 @@ pub mod Filling
 pub mod LayoutRange
 pub mod Noting
 pub mod HeadingRuns
+pub mod Indexed
+pub mod Walks

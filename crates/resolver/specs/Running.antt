@@ -8,17 +8,22 @@ use lib.Dec.{eqb}
 use Rattle.text.specs.Bytes.{Text, Words, anyOf, concatMap}
 use Rattle.text.specs.Lines.{Line}
 use Rattle.text.specs.Words.{tooLong}
+use Rattle.text.specs.Reading.{follow}
 use Rattle.profile.specs.Profile.{Profile}
 use Rattle.rules.specs.declared.Column.{Column}
 use Rattle.rules.specs.declared.Column.the-variants as column
 use Rattle.rules.specs.declared.SetHeading.{SetHeading}
+use Rattle.rules.specs.declared.Progress.{Progress}
 use Rattle.rules.specs.Headings.{Heading, upFrom}
 use Rattle.rules.specs.Sections.{Rule, applies, sections}
 use Rattle.rules.specs.Faults.{Groups}
+use Rattle.rules.specs.Checking.{Onward}
 use Rattle.resolver.specs.declared.Cursors.{Cursors}
+use Rattle.resolver.specs.declared.Walk.{Walk}
 use Rattle.resolver.specs.Matching.{members}
 use Rattle.resolver.specs.Firings.{Firing, ruleFires, setFires, headFires, firings}
-use Rattle.resolver.specs.Writing.{runBuf, runCur}
+use Rattle.resolver.specs.Writing.{Low, runBuf, runCur}
+use Rattle.resolver.specs.Groups.{groupsAt, Rowed}
 
 -- no word is too long
 abbrev pub ShortWords : Words → Type 0
@@ -64,3 +69,16 @@ pub record FiredRange (p : Profile) (gs : Groups) (h : Heading) (every : Bool) (
 pub record FiredHeading (p : Profile) (gs : Groups) (h : Heading) (d d′ : Text) (q q′ : Cursors) (ls : List Line) : Type 0 where
   pub bytes : d′ ≡ runBuf d q (headFires gs p (applies h) (rulesFrom ls))
   pub places : q′ ≡ runCur q (headFires gs p (applies h) (rulesFrom ls))
+
+-- what fires from a place of the walk on
+unfoldable pub leftFirings : Profile → Text → List ℕ → Progress → List Firing
+leftFirings p s t w = firingsFrom (groupsAt s t (w .groups)) p (follow s (w .at) (w .line))
+
+-- one line further: what fired, with what is left, is what was left before
+pub record WalkedLine (p : Profile) (s : Text) (t t′ : List ℕ) (rows′ : List Bool) (d d′ : Text) (w w′ : Walk) : Type 0 where
+  pub onward : Onward s t t′ (w .progress) (w′ .progress)
+  pub rowed : Rowed p s t′ rows′ (w′ .progress .groups)
+  pub low : Low (w′ .cursors .at)
+  pub long : length d′ ≡ length d
+  pub bytes : runBuf d (w .cursors) (leftFirings p s t (w .progress)) ≡ runBuf d′ (w′ .cursors) (leftFirings p s t′ (w′ .progress))
+  pub places : runCur (w .cursors) (leftFirings p s t (w .progress)) ≡ runCur (w′ .cursors) (leftFirings p s t′ (w′ .progress))

@@ -24,3 +24,9 @@ pub struct Range {
     pub first: usize,
     pub count: usize,
 }
+
+// How far the walk over a file has come, and what it has written.
+pub struct Walk {
+    pub progress: rules::Progress,
+    pub cursors: Cursors,
+}

@@ -94,7 +94,7 @@ names-cons : (ns : List Text) (l : Line) (ls : List Line) → namesFrom ns (l �
 unfolding namesFrom
 names-cons ns l ls = refl
 
-left-is : (s t : Text) (p : Progress) → leftFaults s t p ≡ checkFrom (namesAt s t (p .groups)) (p .present) (follow s (p .at) (p .line))
+pub left-is : (s t : Text) (p : Progress) → leftFaults s t p ≡ checkFrom (namesAt s t (p .groups)) (p .present) (follow s (p .at) (p .line))
 unfolding leftFaults
 left-is s t p = refl
 
@@ -256,7 +256,7 @@ module _ (s : Text) (from x y : ℕ) (g : Text) (le : from ≤ length s) (v : Is
 
 -- a line that was opened, split and told apart
 
-entry-any : (n : ℕ) (h : Bool) (ws : Words) → entryOf (lineOf n h ws) ≡ entryOf (lineOf 0 h ws)
+pub entry-any : (n : ℕ) (h : Bool) (ws : Words) → entryOf (lineOf n h ws) ≡ entryOf (lineOf 0 h ws)
 unfolding entryOf
 entry-any n h ws = refl
 
@@ -305,7 +305,7 @@ module _ (s t u : Text) (p : Progress) (h : Bool) (from m : ℕ) (x : Text) (r :
         (carries-rule s t p _ _ w _ (wordsOf (drop from s)) f (entry-any (p .line) h (wordsOf (drop from s)) ∙ (rw e at i)) (rw xe at g))
 
     module _ (e : k ≡ kind.Group) where
-      group-is : (entryOf (lineOf 0 h (wordsOf (drop from s))) ≡ group (rest (getD (wordsOf (drop from s)) 0 [])) (drop 2 (wordsOf (drop from s)))) ×
+      pub group-is : (entryOf (lineOf 0 h (wordsOf (drop from s))) ≡ group (rest (getD (wordsOf (drop from s)) 0 [])) (drop 2 (wordsOf (drop from s)))) ×
           (2 ≤ length (wordsOf (drop from s))) × (isGroupName (getD (wordsOf (drop from s)) 0 []) ≡ true)
       unfolding IsKind
       group-is = rw e at i

@@ -1,0 +1,167 @@
+-- One line of the walk over an accepted file.
+use Prim.Native.Nat.{ℕ, _+_, _≤_, _<_}
+use native.Mathlib.Omega.{arith}
+use mathlib.Core.Path.{_≡_, refl, sym, ap, _∙_}
+use mathlib.Core.List.{List, [], _∷_, _++_}
+use mathlib.Core.Bool.{Bool, true, false, _||_, cond}
+use lib.ListN.{length, getD, drop}
+use lib.Seq.{drop-drop}
+use lib.Dec.{leb}
+use borrow.Author.Tests.{eqb-true, eqb-false, leb-false}
+use Rattle.text.specs.Limits.{mostGroups}
+use Rattle.text.specs.Bytes.{Text, Words, same, anyOf, rest, part}
+use Rattle.text.specs.Lines.{Line}
+use Rattle.text.specs.Refusals.{refusedAs}
+use Rattle.text.specs.Reading.{left, follow, Opens}
+use Rattle.text.proofs.Lists.{nil-left}
+use Rattle.profile.specs.Profile.{Profile}
+use Rattle.rules.specs.declared.Present.{Present}
+use Rattle.rules.specs.declared.Progress.{Progress}
+use Rattle.rules.specs.declared.Split.{Split}
+use Rattle.rules.specs.declared.LineKind.{LineKind}
+use Rattle.rules.specs.declared.LineKind.the-variants as kind
+use Rattle.rules.specs.Entries.{Entry, ignored, wrong, group, set, rule, entryOf}
+use Rattle.rules.specs.Faults.{Groups}
+use Rattle.rules.specs.Splitting.{wordsOf, IsSplit}
+use Rattle.rules.specs.Checking.{lineOf, noHeading, lineFault, presentFault, checkFrom, IsKind, namesAt, Adds, Ready, leftFaults, Onward}
+use Rattle.rules.proofs.Fresh.{as-none}
+use Rattle.rules.proofs.CheckSteps.{check-cons, entry-any, left-is, line-read, step-ignored, step-rule, step-group, group-is, group-word, name-text}
+use Rattle.rules.proofs.GroupNames.{names-length}
+use Rattle.resolver.specs.declared.Cursors.{Cursors}
+use Rattle.resolver.specs.declared.Walk.{Walk}
+use Rattle.resolver.specs.Firings.{Firing}
+use Rattle.resolver.specs.Writing.{Low, runBuf, runCur}
+use Rattle.resolver.specs.Groups.{groupsAt, Rowed, Noted}
+use Rattle.resolver.specs.Running.{firingsFrom, leftFirings, WalkedLine}
+use Rattle.resolver.proofs.LineFirings.{nextFirings, firings-line}
+
+fires-is : (p : Profile) (s : Text) (t : List ℕ) (w : Progress) → leftFirings p s t w ≡ firingsFrom (groupsAt s t (w .groups)) p (follow s (w .at) (w .line))
+unfolding leftFirings
+fires-is p s t w = refl
+
+next-ignored : (gs : Groups) (p : Profile) (ls : List Line) → nextFirings gs p ignored ls ≡ firingsFrom gs p ls
+unfolding nextFirings
+next-ignored gs p ls = refl
+
+next-rule : (gs : Groups) (p : Profile) (ws : Words) (ls : List Line) → nextFirings gs p (rule ws) ls ≡ firingsFrom gs p ls
+unfolding nextFirings
+next-rule gs p ws ls = refl
+
+fault-rule : (ns : List Text) (p : Present) (ws : Words) → lineFault ns p (rule ws) ≡ presentFault p ws
+unfolding lineFault
+fault-rule ns p ws = refl
+
+next-group : (gs : Groups) (p : Profile) (g : Text) (ms : Words) (ls : List Line) → nextFirings gs p (group g ms) ls ≡ firingsFrom (record { name = g; members = ms } ∷ gs) p ls
+unfolding nextFirings
+next-group gs p g ms ls = refl
+
+fault-group : (ns : List Text) (p : Present) (g : Text) (ms : Words) → lineFault ns p (group g ms) ≡ cond (anyOf (same g) ns || leb mostGroups (length ns)) 10 0
+unfolding lineFault
+fault-group ns p g ms = refl
+
+fault-wrong : (ns : List Text) (p : Present) (k : ℕ) → lineFault ns p (wrong k) ≡ k
+unfolding lineFault
+fault-wrong ns p k = refl
+
+-- words behind a place of a part of the file
+left-part : (s : Text) (from y : ℕ) → left s (from + y) ≡ left (drop from s) y
+unfolding left
+left-part s from y = rw (drop-drop y from s)
+
+room-left : (b : Bool) (n : ℕ) (ns : List Text) → length ns ≡ n → _≡_ {A = ℕ} (cond (b || leb mostGroups (length ns)) 10 0) 0 → n < mostGroups
+room-left true n ns l e = absurd (eqb-false 10 0 refl e)
+room-left false n ns l e = go (leb mostGroups (length ns)) refl e
+  where
+    go : (c : Bool) → leb mostGroups (length ns) ≡ c → _≡_ {A = ℕ} (cond c 10 0) 0 → n < mostGroups
+    go true z f = absurd (eqb-false 10 0 refl f)
+    go false z f = let k : length ns < mostGroups = leb-false mostGroups (length ns) z in omega (arith, l, k)
+
+module _ (pr : Profile) (s t u : Text) (p : Progress) (q : Cursors) (d : Text) (rows : List Bool) (h : Bool) (from m : ℕ) (x : Text) (r : Split)
+    (xe : x ≡ drop from s) (lt : p .at < length s) (o : Opens s (p .at) (p .line) h from m) (v : IsSplit h x u r) (w : Ready s t p)
+    (c : leftFaults s t p ≡ []) (rd : Rowed pr s t rows (p .groups)) (lo : Low (q .at)) where
+  abbrev lines-on : List Line
+  lines-on = follow s (from + r .next) (m + r .line)
+
+  read : follow s (p .at) (p .line) ≡ lineOf (p .line) h (wordsOf (drop from s)) ∷ lines-on
+  read = line-read s u (p .at) (p .line) h from m r lt o (rw xe at v)
+
+  -- the line is not refused
+  fault-none : lineFault (namesAt s t (p .groups)) (p .present) (entryOf (lineOf (p .line) h (wordsOf (drop from s)))) ≡ 0
+  fault-none =
+      let a : checkFrom (namesAt s t (p .groups)) (p .present) (lineOf (p .line) h (wordsOf (drop from s)) ∷ lines-on) ≡ [] = rw (← read) (sym (left-is s t p) ∙ c) in
+      eqb-true _ 0 (as-none _ (p .line) (nil-left _ _ (sym (check-cons _ _ (lineOf (p .line) h (wordsOf (drop from s))) lines-on) ∙ a)))
+
+  fires-line : (e : Entry) → entryOf (lineOf 0 h (wordsOf (drop from s))) ≡ e → leftFirings pr s t p ≡ nextFirings (groupsAt s t (p .groups)) pr e lines-on
+  fires-line e z =
+      fires-is pr s t p ∙
+      rw read
+      (firings-line (groupsAt s t (p .groups)) pr (lineOf (p .line) h (wordsOf (drop from s))) lines-on ∙
+      ap (λ (y : Entry). nextFirings (groupsAt s t (p .groups)) pr y lines-on) (entry-any (p .line) h (wordsOf (drop from s)) ∙ z))
+
+  abbrev passed : Progress
+  passed = record { at = from + r .next; line = m + r .line; groups = p .groups; present = p .present; fault = 0 }
+
+  pass : Onward s t t p passed → leftFirings pr s t p ≡ firingsFrom (groupsAt s t (p .groups)) pr lines-on →
+      WalkedLine pr s t t rows d d (record { progress = p; cursors = q }) (record { progress = passed; cursors = q })
+  pass n f =
+      let e : leftFirings pr s t p ≡ leftFirings pr s t (record { at = from + r .next; line = m + r .line; groups = p .groups; present = p .present; fault = 0 }) = f ∙ sym (fires-is pr s t _) in
+      record { onward = n; rowed = rd; low = lo; long = refl; bytes = ap (runBuf d q) e; places = ap (runCur q) e }
+
+  module _ (k : LineKind) (i₀ : IsKind (wordsOf x) (entryOf (lineOf 0 h (wordsOf x))) k) where
+    i : IsKind (wordsOf (drop from s)) (entryOf (lineOf 0 h (wordsOf (drop from s)))) k
+    i = rw xe at i₀
+
+    pub walk-ignored : k ≡ kind.Ignored → WalkedLine pr s t t rows d d (record { progress = p; cursors = q }) (record { progress = passed; cursors = q })
+    unfolding IsKind
+    walk-ignored e =
+        let z : entryOf (lineOf 0 h (wordsOf (drop from s))) ≡ ignored = rw e at i in
+        pass (step-ignored s t u p h from m x r xe lt o v w k i₀ e .right refl) (fires-line ignored z ∙ next-ignored _ pr lines-on)
+
+    pub walk-rule : k ≡ kind.Rule → WalkedLine pr s t t rows d d (record { progress = p; cursors = q }) (record { progress = passed; cursors = q })
+    unfolding IsKind
+    walk-rule e =
+        let z : entryOf (lineOf 0 h (wordsOf (drop from s))) ≡ rule (wordsOf (drop from s)) = rw e at i in
+        let f : presentFault (p .present) (wordsOf (drop from s)) ≡ 0 =
+        sym (fault-rule (namesAt s t (p .groups)) (p .present) (wordsOf (drop from s))) ∙ (rw (entry-any (p .line) h (wordsOf (drop from s)), z) at fault-none) in
+        pass (step-rule s t u p h from m x r xe lt o v w k i₀ 0 e (sym (rw (← xe) at f)) .right refl) (fires-line (rule (wordsOf (drop from s))) z ∙ next-rule _ pr (wordsOf (drop from s)) lines-on)
+
+    module _ (e : k ≡ kind.Group) where
+      entry : entryOf (lineOf 0 h (wordsOf (drop from s))) ≡ group (rest (getD (wordsOf (drop from s)) 0 [])) (drop 2 (wordsOf (drop from s)))
+      entry = group-is s t u p h from m x r xe lt o v w k i₀ e .0
+
+      fault-of : _≡_ {A = ℕ} (cond (anyOf (same (rest (getD (wordsOf (drop from s)) 0 []))) (namesAt s t (p .groups)) || leb mostGroups (length (namesAt s t (p .groups)))) 10 0) 0
+      fault-of =
+          sym (fault-group (namesAt s t (p .groups)) (p .present) (rest (getD (wordsOf (drop from s)) 0 [])) (drop 2 (wordsOf (drop from s)))) ∙
+          (rw (entry-any (p .line) h (wordsOf (drop from s)), entry) at fault-none)
+
+      pub group-room : p .groups < mostGroups
+      group-room = room-left (anyOf (same (rest (getD (wordsOf (drop from s)) 0 []))) (namesAt s t (p .groups))) (p .groups) (namesAt s t (p .groups)) (names-length s t (p .groups)) fault-of
+
+      name-is : rest (getD (wordsOf (drop from s)) 0 []) ≡ part s (from + getD u 0 0 + 1) (from + getD u 1 0)
+      name-is = name-text s from _ _ _ (o .high) (group-word s t u p h from m x r xe lt o v w k i₀ e) (group-is s t u p h from m x r xe lt o v w k i₀ e .2)
+
+      members-are : drop 1 (left s (from + getD u 1 0)) ≡ drop 2 (wordsOf (drop from s))
+      members-are =
+          let y : IsSplit h (drop from s) u r = rw xe at v in
+          let b : left (drop from s) (getD u 1 0) ≡ drop 1 (wordsOf (drop from s)) =
+          y .placed .behind 0 (omega arith) (omega (arith, group-is s t u p h from m x r xe lt o v w k i₀ e .1)) in
+          ap (drop 1) (left-part s from (getD u 1 0) ∙ b) ∙ drop-drop 1 1 (wordsOf (drop from s))
+
+      pub walk-group : (t′ : Text) (rows′ : List Bool) → Noted pr s t t′ rows′ (p .groups) (from + getD u 0 0 + 1) (from + getD u 1 0) →
+          WalkedLine pr s t t′ rows′ d d (record { progress = p; cursors = q })
+          (record { progress = record { at = from + r .next; line = m + r .line; groups = p .groups + 1; present = noHeading; fault = 0 }; cursors = q })
+      walk-group t′ rows′ n =
+          let a : Adds s t t′ (p .groups) (from + getD u 0 0 + 1) (from + getD u 1 0) 0 =
+          record { size = n .named .size; fault = sym (rw name-is at fault-of); named = λ z. n .named; names = λ z. n .names } in
+          let f : leftFirings pr s t p ≡ leftFirings pr s t′ (record { at = from + r .next; line = m + r .line; groups = p .groups + 1; present = noHeading; fault = 0 }) =
+          fires-line _ entry ∙
+          (next-group (groupsAt s t (p .groups)) pr _ _ lines-on ∙
+          (rw (name-is, ← members-are, ← n .groups) (sym (fires-is pr s t′ _)))) in
+          record {
+            onward = step-group s t u p h from m x r xe lt o v w k i₀ e t′ 0 a .right refl;
+            rowed = n .rowed;
+            low = lo;
+            long = refl;
+            bytes = ap (runBuf d q) f;
+            places = ap (runCur q) f;
+          }
