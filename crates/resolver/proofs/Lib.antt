@@ -25,3 +25,4 @@ pub mod Noting
 pub mod HeadingRuns
 pub mod Indexed
 pub mod Walks
+pub mod SetLines
