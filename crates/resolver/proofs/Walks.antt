@@ -2,14 +2,14 @@
 use Prim.Native.Nat.{ℕ, _+_, _≤_, _<_}
 use native.Mathlib.Omega.{arith}
 use mathlib.Core.Path.{_≡_, refl, sym, ap, _∙_}
-use mathlib.Core.List.{List, [], _∷_, _++_}
+use mathlib.Core.List.{List, [], _∷_, _++_, map}
 use mathlib.Core.Bool.{Bool, true, false, _||_, cond}
 use lib.ListN.{length, getD, drop}
 use lib.Seq.{drop-drop}
 use lib.Dec.{leb}
 use borrow.Author.Tests.{eqb-true, eqb-false, leb-false}
 use Rattle.text.specs.Limits.{mostGroups}
-use Rattle.text.specs.Bytes.{Text, Words, same, anyOf, rest, part}
+use Rattle.text.specs.Bytes.{Text, Words, same, anyOf, rest, part, concatMap}
 use Rattle.text.specs.Lines.{Line}
 use Rattle.text.specs.Refusals.{refusedAs}
 use Rattle.text.specs.Reading.{left, follow, Opens}
@@ -20,19 +20,30 @@ use Rattle.rules.specs.declared.Progress.{Progress}
 use Rattle.rules.specs.declared.Split.{Split}
 use Rattle.rules.specs.declared.LineKind.{LineKind}
 use Rattle.rules.specs.declared.LineKind.the-variants as kind
-use Rattle.rules.specs.Entries.{Entry, ignored, wrong, group, set, rule, entryOf}
+use Rattle.rules.specs.Entries.{Entry, ignored, wrong, group, set, rule, before, after, entryOf}
+use Rattle.rules.specs.declared.SetHeading.{SetHeading}
+use Rattle.rules.specs.Headings.{Heading, leftItem, componentOf, indexesIn, firstIndex, headingOf, goodItems}
+use Rattle.rules.specs.Sections.{applies}
+use Rattle.rules.specs.Sets.{Holds, IsSet}
 use Rattle.rules.specs.Faults.{Groups}
-use Rattle.rules.specs.Splitting.{wordsOf, IsSplit}
-use Rattle.rules.specs.Checking.{lineOf, noHeading, lineFault, presentFault, checkFrom, IsKind, namesAt, Adds, Ready, leftFaults, Onward}
+use Rattle.rules.specs.Splitting.{wordsOf, Tallied, IsSplit}
+use Rattle.rules.specs.Checking.{lineOf, noHeading, lineFault, presentOf, presentFault, checkFrom, IsSetLine, IsKind, namesAt, Adds, Ready, leftFaults, Onward}
 use Rattle.rules.proofs.Fresh.{as-none}
-use Rattle.rules.proofs.CheckSteps.{check-cons, entry-any, left-is, line-read, step-ignored, step-rule, step-group, group-is, group-word, name-text}
+use Rattle.rules.proofs.CheckSteps.{check-cons, entry-any, left-is, line-read, step-ignored, step-rule, step-set, step-group, zero-none, group-is, group-word, name-text}
+use Rattle.rules.proofs.Numbers.{goodEntry, entry-good}
 use Rattle.rules.proofs.GroupNames.{names-length}
 use Rattle.resolver.specs.declared.Cursors.{Cursors}
 use Rattle.resolver.specs.declared.Walk.{Walk}
-use Rattle.resolver.specs.Firings.{Firing}
+use Rattle.resolver.specs.Firings.{Firing, headFires}
 use Rattle.resolver.specs.Writing.{Low, runBuf, runCur}
 use Rattle.resolver.specs.Groups.{groupsAt, Rowed, Noted}
-use Rattle.resolver.specs.Running.{firingsFrom, leftFirings, WalkedLine}
+use Rattle.resolver.specs.Running.{headingBy, SetSized, rulesFrom, firingsFrom, leftFirings, FiredHeading, WalkedLine}
+use Rattle.resolver.specs.Ranges.{FromOne}
+use Rattle.resolver.proofs.Written.{buf-append, cur-append, length-run}
+use Rattle.resolver.proofs.Going.{low-run}
+use Rattle.resolver.proofs.HeldHeadings.{heading-held, sized-held}
+use Rattle.resolver.proofs.Indexed.{index-from-one}
+use Rattle.resolver.proofs.SetLines.{set-good, set-short}
 use Rattle.resolver.proofs.LineFirings.{nextFirings, firings-line}
 
 fires-is : (p : Profile) (s : Text) (t : List ℕ) (w : Progress) → leftFirings p s t w ≡ firingsFrom (groupsAt s t (w .groups)) p (follow s (w .at) (w .line))
@@ -75,6 +86,14 @@ room-left false n ns l e = go (leb mostGroups (length ns)) refl e
     go : (c : Bool) → leb mostGroups (length ns) ≡ c → _≡_ {A = ℕ} (cond c 10 0) 0 → n < mostGroups
     go true z f = absurd (eqb-false 10 0 refl f)
     go false z f = let k : length ns < mostGroups = leb-false mostGroups (length ns) z in omega (arith, l, k)
+
+next-set : (gs : Groups) (p : Profile) (h : Heading) (ls : List Line) → nextFirings gs p (set h) ls ≡ headFires gs p (applies h) (rulesFrom ls) ++ firingsFrom gs p ls
+unfolding nextFirings
+next-set gs p h ls = refl
+
+index-is : (ws : Words) (cs : List ℕ) → headingOf (map leftItem ws) cs .index ≡ firstIndex (concatMap indexesIn (map leftItem ws))
+unfolding headingOf
+index-is ws cs = refl
 
 module _ (pr : Profile) (s t u : Text) (p : Progress) (q : Cursors) (d : Text) (rows : List Bool) (h : Bool) (from m : ℕ) (x : Text) (r : Split)
     (xe : x ≡ drop from s) (lt : p .at < length s) (o : Opens s (p .at) (p .line) h from m) (v : IsSplit h x u r) (w : Ready s t p)
@@ -165,3 +184,63 @@ module _ (pr : Profile) (s t u : Text) (p : Progress) (q : Cursors) (d : Text) (
             bytes = ap (runBuf d q) f;
             places = ap (runCur q) f;
           }
+
+    module _ (g : Present) (e : k ≡ kind.Set g) where
+      set-is : IsSetLine (entryOf (lineOf 0 h (wordsOf (drop from s)))) g
+      unfolding IsKind
+      set-is = rw e at i
+
+      pub set-tally : Tallied (wordsOf x) (r .tally)
+      set-tally = v .tally (set-good 0 h (wordsOf (drop from s)) _ (set-is .is) .0)
+
+      pub set-few : length (wordsOf x) ≤ 10
+      set-few = rw xe (set-short 0 h (wordsOf (drop from s)) _ (set-is .is))
+
+      module _ (hd : SetHeading) (z₀ : IsSet (wordsOf x) hd) where
+        abbrev own : Heading
+        own = headingOf (map leftItem (before (wordsOf (drop from s)))) (map componentOf (after (wordsOf (drop from s))))
+
+        fine : (goodItems (map leftItem (before (wordsOf (drop from s)))) (map componentOf (after (wordsOf (drop from s)))) ≡ true) × (set-is .heading ≡ own)
+        fine = set-good 0 h (wordsOf (drop from s)) _ (set-is .is) .1
+
+        held : Holds own hd
+        held = let z : IsSet (wordsOf (drop from s)) hd = rw xe at z₀ in z .holds (z .good ∙ fine .0)
+
+        heading-is : headingBy hd ≡ set-is .heading
+        heading-is = heading-held own hd held ∙ sym (fine .1)
+
+        pub set-sized : SetSized hd
+        set-sized = sized-held own hd held
+
+        pub set-from : FromOne (hd .index)
+        set-from = rw (held .index, index-is (before (wordsOf (drop from s))) (map componentOf (after (wordsOf (drop from s))))) (index-from-one (before (wordsOf (drop from s))))
+
+        onward : Onward s t t p (record { at = from + r .next; line = m + r .line; groups = p .groups; present = g; fault = 0 })
+        onward = step-set s t u p h from m x r xe lt o v w k i₀ g e .right refl
+
+        pub set-clean : checkFrom (namesAt s t (p .groups)) (presentOf (headingBy hd)) (follow s (from + r .next) (m + r .line)) ≡ []
+        set-clean = rw (heading-is, ← set-is .present) (sym (left-is s t _) ∙ (sym (onward .faults) ∙ c))
+
+        pub walk-set : (d′ : Text) (q′ : Cursors) → FiredHeading pr (groupsAt s t (p .groups)) (headingBy hd) d d′ q q′ (follow s (from + r .next) (m + r .line)) →
+            WalkedLine pr s t t rows d d′ (record { progress = p; cursors = q })
+            (record { progress = record { at = from + r .next; line = m + r .line; groups = p .groups; present = g; fault = 0 }; cursors = q′ })
+        walk-set d′ q′ f =
+            let a : leftFirings pr s t p ≡
+            headFires (groupsAt s t (p .groups)) pr (applies (headingBy hd)) (rulesFrom lines-on) ++
+            leftFirings pr s t (record { at = from + r .next; line = m + r .line; groups = p .groups; present = g; fault = 0 }) =
+            fires-line _ (set-is .is) ∙ (next-set (groupsAt s t (p .groups)) pr (set-is .heading) lines-on ∙ rw (heading-is, fires-is pr s t _)) in
+            record {
+              onward = onward;
+              rowed = rd;
+              low = rw (f .places) (low-run q _ lo);
+              long = rw (f .bytes) (length-run d q _);
+              bytes = rw (a, f .bytes, f .places) (buf-append d q _ _);
+              places = rw (a, f .places) (cur-append q _ _);
+            }
+
+    pub walk-wrong : (n : ℕ) → k ≡ kind.Wrong n → ⊥
+    unfolding IsKind goodEntry
+    walk-wrong n e =
+        let y : entryOf (lineOf 0 h (wordsOf (drop from s))) ≡ wrong n = rw e at i in
+        let b : n ≡ 0 = sym (fault-wrong (namesAt s t (p .groups)) (p .present) n) ∙ (rw (entry-any (p .line) h (wordsOf (drop from s)), y) at fault-none) in
+        zero-none n b (rw y at (entry-good (lineOf 0 h (wordsOf (drop from s)))))

@@ -142,7 +142,7 @@ module _ (s t t′ : Text) (p r : Progress) (ws : Words) (h : Bool)
       carried-names : r .fault ≡ 0 → leftNames s t p ≡ leftNames s t′ r
       carried-names z = names-is s t p ∙ rw (read, names-cons, ← v .names z) (sym (names-is s t′ r))
 
-zero-none : (k : ℕ) → k ≡ 0 → isNumber k ≡ true → ⊥
+pub zero-none : (k : ℕ) → k ≡ 0 → isNumber k ≡ true → ⊥
 unfolding isNumber
 zero-none k z q = no (rw z at q)
 
