@@ -29,7 +29,7 @@ use Rattle.rules.specs.Faults.{Groups}
 use Rattle.rules.specs.Splitting.{wordsOf, Tallied, IsSplit}
 use Rattle.rules.specs.Checking.{lineOf, noHeading, lineFault, presentOf, presentFault, checkFrom, IsSetLine, IsKind, namesAt, Adds, Ready, leftFaults, Onward}
 use Rattle.rules.proofs.Fresh.{as-none}
-use Rattle.rules.proofs.CheckSteps.{check-cons, entry-any, left-is, line-read, step-ignored, step-rule, step-set, step-group, zero-none, group-is, group-word, name-text}
+use Rattle.rules.proofs.CheckSteps.{check-cons, entry-any, left-is, line-read, line-high, line-few, step-ignored, step-rule, step-set, step-group, zero-none, group-is, group-word, name-text}
 use Rattle.rules.proofs.Numbers.{goodEntry, entry-good}
 use Rattle.rules.proofs.GroupNames.{names-length}
 use Rattle.resolver.specs.declared.Cursors.{Cursors}
@@ -103,6 +103,12 @@ module _ (pr : Profile) (s t u : Text) (p : Progress) (q : Cursors) (d : Text) (
 
   read : follow s (p .at) (p .line) ≡ lineOf (p .line) h (wordsOf (drop from s)) ∷ lines-on
   read = line-read s u (p .at) (p .line) h from m r lt o (rw xe at v)
+
+  pub on-high : from + r .next ≤ length s
+  on-high = line-high s u (p .at) (p .line) h from m r lt o (rw xe at v)
+
+  pub on-few : m + r .line ≤ from + r .next + 1
+  on-few = line-few s u (p .at) (p .line) h from m r lt o (rw xe at v)
 
   -- the line is not refused
   fault-none : lineFault (namesAt s t (p .groups)) (p .present) (entryOf (lineOf (p .line) h (wordsOf (drop from s)))) ≡ 0

@@ -5,6 +5,7 @@ pub mod groups;
 pub mod matching;
 pub mod ranges;
 pub mod running;
+pub mod walking;
 pub mod writing;
 
 // The next free position of each of ten regions of the buffer (base and additions of component 0, of component 1, ..), and which bases are set.
