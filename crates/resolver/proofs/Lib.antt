@@ -26,3 +26,4 @@ pub mod HeadingRuns
 pub mod Indexed
 pub mod Walks
 pub mod SetLines
+pub mod FileWalks

@@ -21,7 +21,7 @@ use Rattle.rules.specs.Checking.{Onward}
 use Rattle.resolver.specs.declared.Cursors.{Cursors}
 use Rattle.resolver.specs.declared.Walk.{Walk}
 use Rattle.resolver.specs.Matching.{members}
-use Rattle.resolver.specs.Firings.{Firing, ruleFires, setFires, headFires, firings}
+use Rattle.resolver.specs.Firings.{Firing, ruleFires, setFires, headFires, firings, fileFirings}
 use Rattle.resolver.specs.Writing.{Low, runBuf, runCur}
 use Rattle.resolver.specs.Groups.{groupsAt, Rowed}
 
@@ -82,3 +82,8 @@ pub record WalkedLine (p : Profile) (s : Text) (t t′ : List ℕ) (rows′ : Li
   pub long : length d′ ≡ length d
   pub bytes : runBuf d (w .cursors) (leftFirings p s t (w .progress)) ≡ runBuf d′ (w′ .cursors) (leftFirings p s t′ (w′ .progress))
   pub places : runCur (w .cursors) (leftFirings p s t (w .progress)) ≡ runCur (w′ .cursors) (leftFirings p s t′ (w′ .progress))
+
+-- a file walked: all that it fires is written
+pub record WalkedFile (p : Profile) (s d d′ : Text) (q q′ : Cursors) : Type 0 where
+  pub bytes : d′ ≡ runBuf d q (fileFirings s p)
+  pub places : q′ ≡ runCur q (fileFirings s p)

@@ -8,11 +8,13 @@ ghost use Rattle.text.specs.Reading.{Table, Fenced};
 ghost use Rattle.output.specs.Store.{farthest};
 ghost use Rattle.profile.specs.Profile.{fields, optionsOf, textsOf, profileOf};
 ghost use Rattle.profile.specs.Listing.{Listed};
+ghost use Rattle.rules.specs.Faults.{lineFaults};
 ghost use Rattle.rules.specs.Checking.{Ready, leftFaults};
 ghost use Rattle.values.specs.Filling.{Short};
 ghost use Rattle.resolver.specs.Groups.{Rowed};
 ghost use Rattle.resolver.specs.Writing.{Low};
-ghost use Rattle.resolver.specs.Running.{WalkedLine};
+ghost use Rattle.resolver.specs.Running.{WalkedLine, WalkedFile};
+use super::Cursors;
 use super::Walk;
 use super::groups::note_group;
 use super::running::run_heading;
@@ -157,4 +159,72 @@ pub fn walk_line(
             cursors: q,
         },
     }
+}
+
+// The walk over a file whose lines are accepted: all that fires is written.
+pub fn walk(
+    s: &[u8],
+    t: &[u8; 512],
+    fence: usize,
+    places: &mut [usize],
+    names: &mut [usize; 128],
+    rows: &mut [bool; 640],
+    model: &[u8],
+    layouts: &[u8],
+    variants: &[u8],
+    options: &[u8],
+    table: &[usize; 128],
+    listed: usize,
+    n: usize,
+    scratch: &mut [u8],
+    buf: &mut [u8],
+    q: Cursors,
+) -> Cursors
+    requires { ⌜ Table (now t) × Fenced (now s) fence × (length (now places) ≡ 20) × (length (now names) ≡ 128) × (length (now rows) ≡ 640)
+        × Listed (now options) (now table) listed × (length (optionsOf (now options)) ≤ mostOptions)
+        × (n ≡ length (fields (now layouts))) × (1 ≤ n) × (n ≤ 4)
+        × Short (now model) (now layouts) (now variants)
+        × (8192 ≤ length (now scratch)) × (length (now scratch) ≤ farthest) × (length (now buf) ≤ farthest) × Low (q .at)
+        × (lineFaults (now s) ≡ []) ⌝ }
+    ensures { λ r. ⌜ WalkedFile (profileOf (textsOf (now (model .entry)) (now (layouts .entry)) (now (variants .entry)) (now (options .entry))))
+        (now (s .entry)) (now (buf .entry)) (now (buf .exit)) q r ⌝ }
+{
+    let mut at: usize = 0;
+    let mut w = Walk {
+        progress: Progress {
+            at: 0,
+            line: 1,
+            groups: 0,
+            present: Present {
+                form: 0,
+                left: 0,
+                right: 0,
+            },
+            fault: 0,
+        },
+        cursors: q,
+    };
+    while at < s.len() {
+        w = walk_line(
+            s,
+            t,
+            fence,
+            places,
+            names,
+            rows,
+            model,
+            layouts,
+            variants,
+            options,
+            table,
+            listed,
+            n,
+            scratch,
+            buf,
+            w,
+        );
+        let p = w.progress;
+        at = p.at;
+    }
+    w.cursors
 }

@@ -45,7 +45,7 @@ scan-start s t h =
       names = defines-named s;
     }
 
-no-lines : (s : Text) (at n : ℕ) → length s ≤ at → follow s at n ≡ []
+pub no-lines : (s : Text) (at n : ℕ) → length s ≤ at → follow s at n ≡ []
 unfolding follow
 no-lines s at n h = rw (drop-of-length-le s h, marks-nil, lines-nil)
 
