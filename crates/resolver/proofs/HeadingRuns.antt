@@ -20,11 +20,8 @@ use Rattle.resolver.specs.Firings.{Firing, setFires, headFires}
 use Rattle.resolver.specs.Ranges.{FromOne}
 use Rattle.resolver.specs.Running.{headingBy, rulesFrom, FiredRange, FiredHeading}
 use Rattle.resolver.proofs.Written.{run-cur-nil, run-buf-nil}
+use Rattle.resolver.proofs.RangeLoops.{range-none}
 use Rattle.resolver.proofs.LayoutRange.{range-within, range-single}
-
-range-none : (f : ℕ → List Firing) (k : ℕ) → concatMap f (upFrom 0 k) ≡ []
-unfolding concatMap upFrom
-range-none f k = refl
 
 module _ (x : Texts) (gs : Groups) (h : Heading) (ls : List Line) (n : ℕ) (z : n ≡ length (fields (x .layouts))) (r : Range)
     (e : upFrom (r .count) (r .first) ≡ layoutsOf n h) where

@@ -20,7 +20,7 @@ range-cons : (f : ℕ → List Firing) (j k : ℕ) → concatMap f (upFrom (suc 
 unfolding concatMap upFrom
 range-cons f j k = refl
 
-range-none : (f : ℕ → List Firing) (k : ℕ) → concatMap f (upFrom 0 k) ≡ []
+pub range-none : (f : ℕ → List Firing) (k : ℕ) → concatMap f (upFrom 0 k) ≡ []
 unfolding concatMap upFrom
 range-none f k = refl
 

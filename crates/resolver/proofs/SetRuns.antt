@@ -92,7 +92,7 @@ entry-faulty : (n : ℕ) (h : Bool) (ws : Words) → (wordsFault ws ≡ 0 → �
 unfolding entryOf
 entry-faulty n h ws e = rw (ne-eqb (wordsFault ws) 0 e)
 
-fault-wrong : (ns : List Text) (p : Present) (k : ℕ) → lineFault ns p (wrong k) ≡ k
+pub fault-wrong : (ns : List Text) (p : Present) (k : ℕ) → lineFault ns p (wrong k) ≡ k
 unfolding lineFault
 fault-wrong ns p k = refl
 
@@ -101,7 +101,7 @@ unfolding namesAfter presentAfter ruleEntry
 carry-rule ns p [] = (refl, refl)
 carry-rule ns p (w ∷ ws) = (refl, refl)
 
-fault-rule : (ns : List Text) (p : Present) (ws : Words) → lineFault ns p (rule ws) ≡ presentFault p ws
+pub fault-rule : (ns : List Text) (p : Present) (ws : Words) → lineFault ns p (rule ws) ≡ presentFault p ws
 unfolding lineFault
 fault-rule ns p ws = refl
 

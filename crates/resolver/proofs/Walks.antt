@@ -44,6 +44,7 @@ use Rattle.resolver.proofs.Going.{low-run}
 use Rattle.resolver.proofs.HeldHeadings.{heading-held, sized-held}
 use Rattle.resolver.proofs.Indexed.{index-from-one}
 use Rattle.resolver.proofs.SetLines.{set-good, set-short}
+use Rattle.resolver.proofs.SetRuns.{fault-rule, fault-wrong}
 use Rattle.resolver.proofs.LineFirings.{nextFirings, firings-line}
 
 fires-is : (p : Profile) (s : Text) (t : List ℕ) (w : Progress) → leftFirings p s t w ≡ firingsFrom (groupsAt s t (w .groups)) p (follow s (w .at) (w .line))
@@ -58,10 +59,6 @@ next-rule : (gs : Groups) (p : Profile) (ws : Words) (ls : List Line) → nextFi
 unfolding nextFirings
 next-rule gs p ws ls = refl
 
-fault-rule : (ns : List Text) (p : Present) (ws : Words) → lineFault ns p (rule ws) ≡ presentFault p ws
-unfolding lineFault
-fault-rule ns p ws = refl
-
 next-group : (gs : Groups) (p : Profile) (g : Text) (ms : Words) (ls : List Line) → nextFirings gs p (group g ms) ls ≡ firingsFrom (record { name = g; members = ms } ∷ gs) p ls
 unfolding nextFirings
 next-group gs p g ms ls = refl
@@ -69,10 +66,6 @@ next-group gs p g ms ls = refl
 fault-group : (ns : List Text) (p : Present) (g : Text) (ms : Words) → lineFault ns p (group g ms) ≡ cond (anyOf (same g) ns || leb mostGroups (length ns)) 10 0
 unfolding lineFault
 fault-group ns p g ms = refl
-
-fault-wrong : (ns : List Text) (p : Present) (k : ℕ) → lineFault ns p (wrong k) ≡ k
-unfolding lineFault
-fault-wrong ns p k = refl
 
 -- words behind a place of a part of the file
 left-part : (s : Text) (from y : ℕ) → left s (from + y) ≡ left (drop from s) y
