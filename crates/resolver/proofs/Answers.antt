@@ -56,7 +56,7 @@ unfolding refusedIf
 fits true n p h = cc
 fits false n p h = refl
 
-neither : (a b : Bool) → a || b ≡ false → (a ≡ false) × (b ≡ false)
+pub neither : (a b : Bool) → a || b ≡ false → (a ≡ false) × (b ≡ false)
 neither true b h = absurd (no (sym h))
 neither false b h = (refl, h)
 

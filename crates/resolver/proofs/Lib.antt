@@ -27,3 +27,4 @@ pub mod Indexed
 pub mod Walks
 pub mod SetLines
 pub mod FileWalks
+pub mod Resolves

@@ -12,6 +12,7 @@ use Rattle.text.specs.Refusals.{refusedIf}
 use Rattle.profile.specs.Profile.{Texts, profileOf}
 use Rattle.profile.specs.Refusals.{profileRefusals}
 use Rattle.rules.specs.Faults.{fileRefusals}
+use Rattle.resolver.specs.declared.Outcome.{Outcome}
 use Rattle.resolver.specs.Firings.{Firing, fileFirings}
 use Rattle.resolver.specs.Components.{valuesOf, base, additions}
 
@@ -67,6 +68,9 @@ placeOf (accepted ts) = 0
 unfoldable pub lengthsOf : Answer → List ℕ
 lengthsOf (refused r) = replicate 10 0
 lengthsOf (accepted ts) = map length ts
+
+unfoldable pub outcome : Answer → Outcome
+outcome a = record { number = numberOf a; place = placeOf a; lengths = lengthsOf a }
 
 -- "The buffer's first bytes hold the ten texts without gaps; later bytes are untouched." At a refusal "buffer and length sheet stay untouched".
 unfoldable pub bufferAfter : Text → Answer → Text

@@ -22,7 +22,7 @@ use Rattle.resolver.specs.declared.Cursors.{Cursors}
 use Rattle.resolver.specs.declared.Walk.{Walk}
 use Rattle.resolver.specs.Matching.{members}
 use Rattle.resolver.specs.Firings.{Firing, ruleFires, setFires, headFires, firings, fileFirings}
-use Rattle.resolver.specs.Writing.{Low, runBuf, runCur}
+use Rattle.resolver.specs.Writing.{Low, startingAt, runBuf, runCur}
 use Rattle.resolver.specs.Groups.{groupsAt, Rowed}
 
 -- no word is too long
@@ -87,3 +87,8 @@ pub record WalkedLine (p : Profile) (s : Text) (t t′ : List ℕ) (rows′ : Li
 pub record WalkedFile (p : Profile) (s d d′ : Text) (q q′ : Cursors) : Type 0 where
   pub bytes : d′ ≡ runBuf d q (fileFirings s p)
   pub places : q′ ≡ runCur q (fileFirings s p)
+
+-- the same from ten positions, with no base set
+pub record FiredFile (p : Profile) (s d d′ : Text) (at at′ : List ℕ) : Type 0 where
+  pub bytes : d′ ≡ runBuf d (startingAt at) (fileFirings s p)
+  pub places : at′ ≡ runCur (startingAt at) (fileFirings s p) .at

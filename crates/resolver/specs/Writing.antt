@@ -4,13 +4,17 @@ use Prim.Native.Nat.{ℕ, _+_, _*_, _≤_}
 use mathlib.Core.Path.{_≡_}
 use mathlib.Core.List.{List, [], _∷_}
 use mathlib.Core.Bool.{true, false, cond}
-use lib.ListN.{length, getD, set}
+use lib.ListN.{length, getD, set, replicate}
 use lib.Dec.{ltb}
 use Rattle.text.specs.Bytes.{Text}
 use Rattle.output.specs.Store.{stored, farthest, past}
 use Rattle.values.specs.Spread.{signed}
 use Rattle.resolver.specs.declared.Cursors.{Cursors}
 use Rattle.resolver.specs.Firings.{Firing, fired}
+
+-- the first cursors: no base is set
+abbrev pub startingAt : List ℕ → Cursors
+startingAt ps = record { at = ps; based = replicate 5 false }
 
 -- one firing: an addition goes to its component's second region, a plain value to the first, where it has no base yet
 unfoldable pub fireCur : Cursors → Firing → Cursors

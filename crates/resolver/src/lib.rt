@@ -4,6 +4,7 @@ pub mod firing;
 pub mod groups;
 pub mod matching;
 pub mod ranges;
+pub mod resolving;
 pub mod running;
 pub mod walking;
 pub mod writing;
@@ -30,4 +31,11 @@ pub struct Range {
 pub struct Walk {
     pub progress: rules::Progress,
     pub cursors: Cursors,
+}
+
+// The answer of a resolve: number 0, place 0 and the lengths of the ten texts; or a refusal's number and place, and ten zeros.
+pub struct Outcome {
+    pub number: usize,
+    pub place: usize,
+    pub lengths: [u32; 10],
 }

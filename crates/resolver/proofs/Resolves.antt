@@ -1,0 +1,181 @@
+-- The ways out of a resolve.
+use Prim.Native.Nat.{ℕ, _-_, _≤_}
+use mathlib.Core.Path.{_≡_, refl, sym, ap, _∙_}
+use mathlib.Core.List.{List, [], _∷_, _++_, map}
+use mathlib.Core.Bool.{Bool, true, false, _||_, _&&_}
+use lib.ListN.{length, take, replicate}
+use lib.Seq.{length-take-le}
+use lib.Dec.{leb, ltb}
+use native.Mathlib.Omega.{arith}
+use borrow.Author.Tests.{leb-true}
+use borrow.Rule.Slice.PartMut.{midOf, postOf}
+use Rattle.text.specs.declared.Refusal.{Refusal}
+use Rattle.text.specs.Limits.{longestText, longestFile, longestTotal}
+use Rattle.text.specs.Bytes.{Text, allOf, anyOf}
+use Rattle.text.specs.Refusals.{refusedIf, firstRefusal, isNumber, hasNumber}
+use Rattle.text.proofs.Lists.{and-both, nil-left, nil-right}
+use Rattle.output.specs.Store.{farthest}
+use Rattle.profile.specs.Profile.{Texts, fields, textsOf, profileOf, layoutCount}
+use Rattle.profile.specs.Refusals.{outside, longField, badText, textRefusals, countRefusals, profileRefusals}
+use Rattle.profile.proofs.Counts as counted
+use Rattle.profile.proofs.Numbers.{profile-numbers}
+use Rattle.rules.specs.Faults.{lineFaults, fileRefusals}
+use Rattle.rules.proofs.Numbers.{file-numbers}
+use Rattle.values.specs.Filling.{Short}
+use Rattle.resolver.specs.declared.Outcome.{Outcome}
+use Rattle.resolver.specs.Firings.{fileFirings}
+use Rattle.resolver.specs.Answer.{textsFrom, tenTexts, sum, total, noRoom, refusals, Answer, refused, accepted, firstOf, answer, numberOf, placeOf, lengthsOf, outcome, bufferAfter, Answered}
+use Rattle.resolver.specs.Writing.{startingAt, runBuf, Low, starts}
+use Rattle.resolver.proofs.Answers.{neither, answered}
+use Rattle.resolver.proofs.Measured.{low-starts, written-by}
+
+-- the first of some refusals
+
+clear-first : (rs : List Refusal) → allOf hasNumber rs ≡ true → firstRefusal rs .number ≡ 0 → rs ≡ []
+unfolding firstRefusal allOf hasNumber isNumber
+clear-first [] h e = refl
+clear-first (r ∷ rs) h e =
+    let w = and-both (leb 1 (r .number)) (leb (r .number) 11) (and-both (hasNumber r) (allOf hasNumber rs) h .0) in
+    absurd (omega (arith, leb-true 1 (r .number) (w .0)))
+
+refused-first : (rs more : List Refusal) (ts : List Text) → (firstRefusal rs .number ≡ 0 → ⊥) → refused (firstRefusal rs) ≡ firstOf (rs ++ more) ts
+unfolding firstRefusal firstOf
+refused-first [] more ts h = absurd (h refl)
+refused-first (r ∷ rs) more ts h = refl
+
+-- What is known of the four texts where nothing is refused of them.
+
+clear-if : (b : Bool) (n p : ℕ) → refusedIf b n p ≡ [] → b ≡ false
+unfolding refusedIf
+clear-if true n p h = cc
+clear-if false n p h = refl
+
+short-fields : (t : Text) (fs : List Text) → badText t fs ≡ false → anyOf longField fs ≡ false
+unfolding badText
+short-fields t fs h = neither (anyOf outside t) (anyOf longField fs) (neither (ltb longestText (length t)) _ h .1) .1
+
+pub short : (m l v o : Text) → profileRefusals (textsOf m l v o) ≡ [] → Short m l v
+unfolding profileRefusals textRefusals anyOf
+short m l v o h =
+    let a = nil-left (textRefusals (textsOf m l v o)) (countRefusals (textsOf m l v o)) h in
+    let b = nil-right (refusedIf (badText m (m ∷ [])) 1 1) _ a in
+    let c = nil-right (refusedIf (badText l (fields l)) 1 2) _ b in
+    record {
+      model = neither (longField m) false (short-fields m (m ∷ []) (clear-if _ 1 1 (nil-left (refusedIf (badText m (m ∷ [])) 1 1) _ a))) .0;
+      layouts = short-fields l (fields l) (clear-if _ 1 2 (nil-left (refusedIf (badText l (fields l)) 1 2) _ b));
+      variants = short-fields v (fields v) (clear-if _ 1 3 (nil-left (refusedIf (badText v (fields v)) 1 3) _ c));
+    }
+
+pub some-layouts : (l : Text) (n : ℕ) → n ≡ length (fields l) → 1 ≤ n
+unfolding layoutCount profileOf
+some-layouts l n e = rw e (counted.some-layout (textsOf [] l [] []))
+
+pub few-layouts : (m l v o : Text) (n : ℕ) → profileRefusals (textsOf m l v o) ≡ [] → n ≡ length (fields l) → n ≤ 4
+unfolding layoutCount profileOf
+few-layouts m l v o n h e = rw e (counted.few-layouts (textsOf m l v o) h)
+
+-- nothing is refused where the first refusal has number 0
+
+pub profile-clear : (t : Texts) (r : Refusal) → r ≡ firstRefusal (profileRefusals t) → r .number ≡ 0 → profileRefusals t ≡ []
+profile-clear t r e h = clear-first (profileRefusals t) (profile-numbers t) (sym (ap (λ (x : Refusal). x .number) e) ∙ h)
+
+pub file-clear : (f : Text) (r : Refusal) → r ≡ firstRefusal (fileRefusals f) → r .number ≡ 0 → fileRefusals f ≡ []
+file-clear f r e h = clear-first (fileRefusals f) (file-numbers f) (sym (ap (λ (x : Refusal). x .number) e) ∙ h)
+
+pub lines-clear : (f : Text) → fileRefusals f ≡ [] → lineFaults f ≡ []
+unfolding fileRefusals
+lines-clear f h = nil-right (refusedIf (ltb longestFile (length f)) 3 0) _ h
+
+-- the answer, by what the checks found
+module _ (room : ℕ) (f : Text) (t : Texts) where
+  pub profile-refused : (r : Refusal) → r ≡ firstRefusal (profileRefusals t) → (r .number ≡ 0 → ⊥) → outcome (refused r) ≡ outcome (answer room f t)
+  unfolding answer refusals
+  profile-refused r e h = ap outcome (ap refused e ∙ refused-first (profileRefusals t) _ (tenTexts f t) (λ z. h (ap (λ (x : Refusal). x .number) e ∙ z)))
+
+  module _ (clear : profileRefusals t ≡ []) where
+    pub file-refused : (r : Refusal) → r ≡ firstRefusal (fileRefusals f) → (r .number ≡ 0 → ⊥) → outcome (refused r) ≡ outcome (answer room f t)
+    unfolding answer refusals
+    file-refused r e h =
+        rw clear (ap outcome (ap refused e ∙ refused-first (fileRefusals f) _ (tenTexts f t) (λ z. h (ap (λ (x : Refusal). x .number) e ∙ z))))
+
+    pub room-refused : fileRefusals f ≡ [] → noRoom room (total (tenTexts f t)) ≡ true →
+        outcome (refused (record { number = 11; place = 0 })) ≡ outcome (answer room f t)
+    unfolding answer refusals refusedIf firstOf
+    room-refused lines h = rw (clear, lines, h) refl
+
+    pub all-accepted : (ns : List ℕ) → fileRefusals f ≡ [] → noRoom room (total (tenTexts f t)) ≡ false → ns ≡ map length (tenTexts f t) →
+        record { number = 0; place = 0; lengths = ns } ≡ outcome (answer room f t)
+    unfolding answer refusals refusedIf firstOf outcome numberOf placeOf lengthsOf
+    all-accepted ns lines h e = rw (clear, lines, h, e) refl
+
+-- an answer with number 0 is accepted
+pub record Accepts (room : ℕ) (f : Text) (t : Texts) : Type 0 where
+  pub is : answer room f t ≡ accepted (tenTexts f t)
+  pub profile : profileRefusals t ≡ []
+  pub file : fileRefusals f ≡ []
+  pub fits : total (tenTexts f t) ≤ room
+  pub low : total (tenTexts f t) ≤ longestTotal
+
+accepts-when : (room : ℕ) (f : Text) (t : Texts) (rs : List Refusal) → refusals room f t ≡ rs → Answered room (firstOf rs (tenTexts f t)) →
+    numberOf (firstOf rs (tenTexts f t)) ≡ 0 → Accepts room f t
+unfolding answer refusals firstOf Answered numberOf
+accepts-when room f t [] e a h =
+    record {
+      is = rw e refl;
+      profile = nil-left (profileRefusals t) _ e;
+      file = nil-left (fileRefusals f) _ (nil-right (profileRefusals t) _ e);
+      fits = a .1;
+      low = a .2;
+    }
+accepts-when room f t (r ∷ rs) e a h = absurd (omega (arith, a .0))
+
+pub accepts : (room : ℕ) (f : Text) (t : Texts) (x : Outcome) → x ≡ outcome (answer room f t) → x .number ≡ 0 → Accepts room f t
+unfolding answer outcome
+accepts room f t x e h = accepts-when room f t (refusals room f t) refl (answered room f t) (sym (ap (λ (y : Outcome). y .number) e) ∙ h)
+
+low-sum : (ns : List ℕ) → sum ns ≤ farthest → Low ns
+unfolding Low sum
+low-sum [] h = tt
+low-sum (n ∷ ns) h = (omega arith, low-sum ns (omega arith))
+
+module _ (room : ℕ) (f : Text) (t : Texts) (x : Outcome) (is : x ≡ outcome (answer room f t)) (a : Accepts room f t) where
+  pub lengths-accepted : x .lengths ≡ map length (tenTexts f t)
+  unfolding outcome lengthsOf
+  lengths-accepted = ap (λ (y : Outcome). y .lengths) is ∙ rw (a .is) refl
+
+  pub sum-accepted : sum (x .lengths) ≡ total (tenTexts f t)
+  unfolding total
+  sum-accepted = ap sum lengths-accepted
+
+  pub low-accepted : Low (x .lengths)
+  low-accepted = low-sum (x .lengths) (omega (arith, sum-accepted, a .low))
+
+  pub low-placed : (at : List ℕ) → at ≡ starts 0 (x .lengths) → Low at
+  low-placed at e = rw e (low-starts 0 (x .lengths) (omega (arith, sum-accepted, a .low)))
+
+-- the room that they take in the buffer
+pub part-low : (d : Text) (n m : ℕ) → n ≡ m → m ≤ length d → m ≤ longestTotal → length (midOf 0 (n - 0) d) ≤ farthest
+part-low d n m e h k =
+    let z : n - 0 ≡ n = omega arith in
+    let l : length (take n d) ≡ n = length-take-le n d (omega arith) in
+    rw z (omega arith)
+
+-- a refusal leaves the buffer as it was
+refused-kept : (d : Text) (a : Answer) → (numberOf a ≡ 0 → ⊥) → d ≡ bufferAfter d a
+unfolding numberOf bufferAfter
+refused-kept d (refused r) h = refl
+refused-kept d (accepted ts) h = absurd (h refl)
+
+pub buffer-kept : (d f : Text) (t : Texts) (x : Outcome) → x ≡ outcome (answer (length d) f t) → (x .number ≡ 0 → ⊥) → d ≡ bufferAfter d (answer (length d) f t)
+unfolding outcome
+buffer-kept d f t x e h = refused-kept d (answer (length d) f t) (λ z. h (ap (λ (y : Outcome). y .number) e ∙ z))
+
+-- an accepted answer leaves the ten texts
+pub buffer-written : (d f : Text) (t : Texts) (x : Outcome) → x ≡ outcome (answer (length d) f t) → Accepts (length d) f t →
+    (at : List ℕ) (n : ℕ) (d′ : Text) → at ≡ starts 0 (x .lengths) → n ≡ sum (x .lengths) →
+    d′ ≡ runBuf (midOf 0 (n - 0) d) (startingAt at) (fileFirings f (profileOf t)) → d′ ++ postOf 0 (n - 0) d ≡ bufferAfter d (answer (length d) f t)
+unfolding tenTexts
+buffer-written d f t x e a at n d′ p m w =
+    let l : x .lengths ≡ map length (tenTexts f t) = lengths-accepted (length d) f t x e a in
+    rw (a .is)
+    (written-by (fileFirings f (profileOf t)) d (a .fits) (a .low) at n d′ (p ∙ ap (starts 0) l) (m ∙ sum-accepted (length d) f t x e a) w)

@@ -1,0 +1,163 @@
+// The resolve of a rules file for a profile: its answer, and the ten texts in a lent buffer.
+ghost use mathlib.Core.Path.{_≡_};
+ghost use mathlib.Core.List.{[]};
+ghost use Prim.Native.Nat.{_≤_};
+ghost use lib.ListN.{length};
+ghost use Rattle.output.specs.Store.{farthest};
+ghost use Rattle.profile.specs.Profile.{textsOf, profileOf};
+ghost use Rattle.profile.specs.Refusals.{profileRefusals};
+ghost use Rattle.rules.specs.Faults.{lineFaults};
+ghost use Rattle.resolver.specs.Answer.{answer, refused as refusedAt, bufferAfter, outcome, noRoom};
+ghost use Rattle.resolver.specs.Writing.{Low};
+ghost use Rattle.resolver.specs.Running.{FiredFile};
+use super::Cursors;
+use super::Outcome;
+use super::walking::walk;
+use super::writing::places;
+use profile::fields::field_count;
+use profile::table::list_options;
+use rules::check::check_file;
+use text::Refusal;
+use text::reader::fence_of;
+use text::table::TABLE;
+
+fn refused(r: Refusal) -> Outcome
+    ensures { λ a. ⌜ a ≡ outcome (refusedAt r) ⌝ }
+{
+    Outcome {
+        number: r.number,
+        place: r.place,
+        lengths: [0; 10],
+    }
+}
+
+// Refusal 11: `total` is over the buffer's length, or over the longest total.
+fn no_room(room: usize, total: u32) -> bool
+    ensures { λ r. ⌜ r ≡ noRoom room total ⌝ }
+{
+    if room < total as usize {
+        return true;
+    }
+    1048576 < total
+}
+
+// All that an accepted file fires for an accepted profile, written from ten positions on: the positions after it.
+fn fire_file(
+    s: &[u8],
+    model: &[u8],
+    layouts: &[u8],
+    variants: &[u8],
+    options: &[u8],
+    at: [u32; 10],
+    buf: &mut [u8],
+) -> [u32; 10]
+    requires { ⌜ (profileRefusals (textsOf (now model) (now layouts) (now variants) (now options)) ≡ []) × (lineFaults (now s) ≡ [])
+        × (length (now buf) ≤ farthest) × Low at ⌝ }
+    ensures { λ r. ⌜ FiredFile (profileOf (textsOf (now (model .entry)) (now (layouts .entry)) (now (variants .entry)) (now (options .entry))))
+        (now (s .entry)) (now (buf .entry)) (now (buf .exit)) at r ⌝ }
+{
+    let t = TABLE;
+    let mut table: [usize; 128] = [0; 128];
+    let listed = list_options(options, &mut table);
+    let n = field_count(layouts);
+    let fence = fence_of(s);
+    let mut places: [usize; 20] = [0; 20];
+    let mut names: [usize; 128] = [0; 128];
+    let mut rows: [bool; 640] = [false; 640];
+    let mut scratch: [u8; 8192] = [0; 8192];
+    let q = Cursors {
+        at,
+        based: [false; 5],
+    };
+    let m = walk(
+        s,
+        &t,
+        fence,
+        &mut places,
+        &mut names,
+        &mut rows,
+        model,
+        layouts,
+        variants,
+        options,
+        &table,
+        listed,
+        n,
+        &mut scratch,
+        buf,
+        q,
+    );
+    m.at
+}
+
+// The answer of a resolve that is lent `room` bytes, without the texts.
+pub fn measure(
+    s: &[u8],
+    model: &[u8],
+    layouts: &[u8],
+    variants: &[u8],
+    options: &[u8],
+    room: usize,
+) -> Outcome
+    ensures { λ r. ⌜ r ≡ outcome (answer room (now (s .entry))
+        (textsOf (now (model .entry)) (now (layouts .entry)) (now (variants .entry)) (now (options .entry)))) ⌝ }
+{
+    let p = profile::check(model, layouts, variants, options);
+    if p.number != 0 {
+        return refused(p);
+    }
+    let mut names: [usize; 128] = [0; 128];
+    let c = check_file(s, &mut names);
+    let f = c.refusal;
+    if f.number != 0 {
+        return refused(f);
+    }
+    let mut none: [u8; 0] = [0; 0];
+    let lengths = fire_file(s, model, layouts, variants, options, [0; 10], &mut none);
+    let sums = places(lengths);
+    if no_room(room, sums.total) {
+        return refused(Refusal {
+            number: 11,
+            place: 0,
+        });
+    }
+    Outcome {
+        number: 0,
+        place: 0,
+        lengths,
+    }
+}
+
+// The answer of a resolve, with the ten texts at the start of the buffer; at a refusal the buffer is as it was.
+pub fn resolve(
+    s: &[u8],
+    model: &[u8],
+    layouts: &[u8],
+    variants: &[u8],
+    options: &[u8],
+    buf: &mut [u8],
+) -> Outcome
+    ensures { λ r. ⌜ (r ≡ outcome (answer (length (now (buf .entry))) (now (s .entry))
+        (textsOf (now (model .entry)) (now (layouts .entry)) (now (variants .entry)) (now (options .entry)))))
+        × (now (buf .exit) ≡ bufferAfter (now (buf .entry)) (answer (length (now (buf .entry))) (now (s .entry))
+        (textsOf (now (model .entry)) (now (layouts .entry)) (now (variants .entry)) (now (options .entry))))) ⌝ }
+{
+    let a = measure(s, model, layouts, variants, options, buf.len());
+    if a.number != 0 {
+        return a;
+    }
+    let lengths = a.lengths;
+    let sums = places(lengths);
+    let starts = sums.at;
+    let total = sums.total as usize;
+    fire_file(
+        s,
+        model,
+        layouts,
+        variants,
+        options,
+        starts,
+        &mut buf[0..total],
+    );
+    a
+}
