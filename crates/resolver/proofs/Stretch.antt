@@ -2,11 +2,11 @@
 use Prim.Native.Nat.{ℕ, zero, suc, _+_, _*_, _-_, _≤_, _<_}
 use native.Mathlib.Nat.{zero-add, sub-zero}
 use native.Mathlib.Omega.{arith}
-use mathlib.Core.Path.{_≡_, refl, ap, _∙_}
+use mathlib.Core.Path.{_≡_, refl, sym, ap, _∙_}
 use mathlib.Core.List.{List, [], _∷_, _++_, map, append-assoc, append-nil}
 use mathlib.Core.Bool.{Bool, true, false, _||_, cond}
 use lib.ListN.{length, take, drop, getD, length-append}
-use lib.Seq.{take-nil, take-append-add, drop-append-add}
+use lib.Seq.{take-all, take-nil, take-append-add, drop-append-add}
 use lib.Dec.{ltb}
 use borrow.Author.Tests.{lt-ltb, le-ltb}
 use Rattle.text.specs.Bytes.{Text}
@@ -19,6 +19,33 @@ unfolding sum
 sum-take zero ns = omega arith
 sum-take (suc n) [] = omega arith
 sum-take (suc n) (x ∷ ns) = omega (arith, sum-take n ns)
+
+pub sum-none : (ns : List ℕ) → 0 ≡ sum (take 0 ns)
+unfolding sum
+sum-none ns = refl
+
+sum-suc : (n : ℕ) (ns : List ℕ) → n < length ns → sum (take n ns) + getD ns n 0 ≡ sum (take (n + 1) ns)
+unfolding sum
+sum-suc n [] h = absurd (omega arith)
+sum-suc zero (x ∷ ns) h = omega arith
+sum-suc (suc n) (x ∷ ns) h =
+    let s : suc n + 1 ≡ suc (n + 1) = omega arith in
+    rw s (omega (arith, sum-suc n ns (omega arith)))
+
+pub sum-next : (m v i k : ℕ) (ns : List ℕ) → length ns ≡ k → m ≡ sum (take i ns) → v ≡ getD ns i 0 → i < k → m + v ≡ sum (take (i + 1) ns)
+sum-next m v i k ns l e g h = rw (e, g) (sum-suc i ns (omega arith))
+
+pub sum-all : (n i k : ℕ) (ns : List ℕ) → n ≡ sum (take i ns) → i ≤ k → k ≤ i → n ≡ sum (take k ns)
+sum-all n i k ns e h j = let z : i ≡ k = omega arith in e ∙ ap (λ m. sum (take m ns)) z
+
+pub sum-beyond : (n i k : ℕ) (ns : List ℕ) → n ≡ sum (take i ns) → length ns ≤ i → i ≤ k → n ≡ sum (take k ns)
+sum-beyond n i k ns e h j = e ∙ ap sum (take-all i ns h ∙ sym (take-all k ns (omega arith)))
+
+sum-more : (i : ℕ) (ns : List ℕ) → sum (take i ns) ≤ sum (take (i + 2) ns)
+unfolding sum
+sum-more i [] = rw (take-nil {A = ℕ} i, take-nil {A = ℕ} (i + 2)) (omega arith)
+sum-more zero (x ∷ ns) = omega arith
+sum-more (suc i) (x ∷ ns) = let s : suc i + 2 ≡ suc (i + 2) = omega arith in rw s (omega (arith, sum-more i ns))
 
 pub joined-length : (ts : List Text) → length (joined ts) ≡ total ts
 unfolding joined total sum
@@ -75,3 +102,25 @@ stretch-lengths d ns c h = rw (lt-ltb (length d) (sum ns) h) (go (ltb 4 c))
     go : (t : Bool) → cond (t || true) [] (take (stretchLength ns c) (drop (stretchStart ns c) d)) ≡ []
     go true = refl
     go false = refl
+
+-- a component as it is read out: n is the sum of the ten lengths, a and e are where it starts and ends
+module _ (d : Text) (ns : List ℕ) (c n : ℕ) (ten : length ns ≡ 10) (summed : n ≡ sum (take 10 ns)) where
+  whole : n ≡ sum ns
+  whole = summed ∙ ap sum (take-all 10 ns (omega arith))
+
+  pub too-long : length d < n → [] ≡ stretch d ns c
+  too-long h = sym (stretch-lengths d ns c (omega (arith, whole)))
+
+  module _ (a e : ℕ) (start : a ≡ sum (take (2 * c) ns)) (end : e ≡ sum (take (2 * c + 2) ns)) where
+    pub in-order : a ≤ e
+    in-order = omega (arith, sum-more (2 * c) ns)
+
+    pub within : n ≤ length d → e ≤ length d
+    within h = omega (arith, whole, sum-take (2 * c + 2) ns)
+
+    pub read-out : c ≤ 4 → n ≤ length d → take (e - a) (drop a d) ≡ stretch d ns c
+    unfolding stretch stretchLength stretchStart
+    read-out k h =
+        let z : 2 * (c + 1) ≡ 2 * c + 2 = omega arith in
+        let f : ltb (length d) (sum ns) ≡ false = le-ltb (length d) (sum ns) (omega (arith, whole)) in
+        rw (le-ltb 4 c k, f, z, ← start, ← end) refl

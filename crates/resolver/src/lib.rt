@@ -1,5 +1,6 @@
 // The resolve of a rules file for a profile.
 
+pub mod components;
 pub mod firing;
 pub mod groups;
 pub mod matching;
