@@ -1,2 +1,5 @@
 pub mod Sheet
+pub mod OneByOne
 pub mod Entry
+pub mod Places
+pub mod Ways

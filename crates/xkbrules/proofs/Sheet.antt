@@ -1,17 +1,17 @@
 -- The sheet of lengths: what is written is read back, and a component's code fits 64 bits.
-use Prim.Native.Nat.{ℕ, zero, suc, _+_, _*_, _/_, _%_, _^_, _≤_, _<_}
+use Prim.Native.Nat.{ℕ, zero, suc, _+_, _*_, _-_, _/_, _%_, _^_, _≤_, _<_}
 use native.Mathlib.Nat.{div-div-eq-div-mul}
 use native.Mathlib.Omega.{arith}
-use mathlib.Core.Path.{_≡_, refl, sym, _∙_}
+use mathlib.Core.Path.{_≡_, refl, sym, ap, _∙_}
 use mathlib.Core.List.{List, [], _∷_, _++_, map, append-assoc}
 use mathlib.Core.Bool.{Bool, true, false, _||_, cond}
-use lib.ListN.{length, drop, length-append, length-drop, length-map}
-use lib.Seq.{getD-append-add, drop-at}
+use lib.ListN.{length, take, drop, length-append, length-drop, length-map}
+use lib.Seq.{getD-append-add, drop-at, take-all}
 use lib.Dec.{leb, ltb}
-use borrow.Author.Tests.{leb-false}
+use borrow.Author.Tests.{lt-ltb, le-ltb, le-leb, lt-leb, leb-false}
 use Rattle.text.specs.Bytes.{Text, concatMap}
 use Rattle.resolver.specs.Answer.{sum, total, accepted, stretchStart, stretchLength}
-use Rattle.resolver.proofs.Stretch.{sum-take}
+use Rattle.resolver.proofs.Stretch.{sum-take, in-order}
 use Rattle.xkbrules.specs.Sheet.{sheetLength, littleEndian, sheetAfter, numberAt, numbersFrom, lengthsIn, componentCode}
 
 -- a number in four bytes
@@ -55,7 +55,7 @@ numbers-back (x ∷ ns) s h =
       numbers-back ns s b,
     )
 
-written-length : (ns : List ℕ) → length (concatMap littleEndian ns) ≡ 4 * length ns
+pub written-length : (ns : List ℕ) → length (concatMap littleEndian ns) ≡ 4 * length ns
 unfolding concatMap littleEndian
 written-length [] = refl
 written-length (x ∷ ns) = omega (arith, written-length ns)
@@ -95,3 +95,58 @@ code-fits room s c =
     let ns = lengthsIn s in
     untold (ltb 4 c) (ltb (length s) sheetLength) (ltb room (sum ns)) (leb (2 ^ 32) (sum ns)) _ (2 ^ 64) (omega arith)
     (λ e. omega (arith, leb-false (2 ^ 32) (sum ns) e, sum-take (2 * c) ns, sum-take (2 * (c + 1)) ns))
+
+-- a component's code as it is found, test by test: n is the sum of the ten lengths ns
+
+pub code-number : (room : ℕ) (s : Text) (c : ℕ) → 4 < c → 0 ≡ componentCode room s c
+unfolding componentCode
+code-number room s c h = rw (lt-ltb 4 c h)
+
+pub code-sheet : (room : ℕ) (s : Text) (c : ℕ) → c ≤ 4 → length s < sheetLength → 0 ≡ componentCode room s c
+unfolding componentCode
+code-sheet room s c h k = rw (le-ltb 4 c h, lt-ltb (length s) sheetLength k)
+
+numbers-length : (s : Text) (i n : ℕ) → length (numbersFrom s i n) ≡ n
+unfolding numbersFrom
+numbers-length s i zero = refl
+numbers-length s i (suc n) = ap suc (numbers-length s (i + 4) n)
+
+module _ (room : ℕ) (s : Text) (c : ℕ) (ns : List ℕ) (n : ℕ) (few : c ≤ 4) (long : sheetLength ≤ length s) (held : ns ≡ lengthsIn s) (summed : n ≡ sum (take 10 ns)) where
+  whole : n ≡ sum (lengthsIn s)
+  unfolding lengthsIn
+  whole = summed ∙ rw held (ap sum (take-all 10 (lengthsIn s) (omega (arith, numbers-length s 0 10))))
+
+  pub code-texts : room < n → 0 ≡ componentCode room s c
+  unfolding componentCode
+  code-texts h = rw (le-ltb 4 c few, le-ltb (length s) sheetLength long, lt-ltb room (sum (lengthsIn s)) (omega (arith, whole)))
+
+  pub code-wide : n ≤ room → 2 ^ 32 ≤ n → 0 ≡ componentCode room s c
+  unfolding componentCode
+  code-wide h k =
+      rw (
+        le-ltb 4 c few,
+        le-ltb (length s) sheetLength long,
+        le-ltb room (sum (lengthsIn s)) (omega (arith, whole)),
+        le-leb (2 ^ 32) (sum (lengthsIn s)) (omega (arith, whole)),
+      )
+
+  module _ (a e : ℕ) (start : a ≡ sum (take (2 * c) ns)) (end : e ≡ sum (take (2 * c + 2) ns)) where
+    pub code-bounds : n < 2 ^ 32 → (a ≤ e) × (e < 2 ^ 32)
+    unfolding lengthsIn
+    code-bounds h =
+        (in-order [] ns c n (rw held (numbers-length s 0 10)) summed a e start end, rw (end, held) (omega (arith, whole, sum-take (2 * c + 2) (lengthsIn s))))
+
+    pub code-found : n ≤ room → n < 2 ^ 32 → a * 2 ^ 32 + (e - a) ≡ componentCode room s c
+    unfolding componentCode stretchStart stretchLength
+    code-found h k =
+        let d : 2 * (c + 1) ≡ 2 * c + 2 = omega arith in
+        rw (
+          le-ltb 4 c few,
+          le-ltb (length s) sheetLength long,
+          le-ltb room (sum (lengthsIn s)) (omega (arith, whole)),
+          lt-leb (2 ^ 32) (sum (lengthsIn s)) (omega (arith, whole)),
+          ← held,
+          d,
+          ← start,
+          ← end,
+        )
