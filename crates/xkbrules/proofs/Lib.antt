@@ -1,5 +1,4 @@
 pub mod Sheet
 pub mod OneByOne
 pub mod Entry
-pub mod Places
 pub mod Ways

@@ -9,14 +9,9 @@ use Rattle.profile.specs.Profile.{Texts}
 use Rattle.resolver.specs.declared.Outcome.{Outcome}
 use Rattle.resolver.specs.Answer.{Answer, refused, accepted, answer, numberOf, placeOf, lengthsOf, outcome, bufferAfter, Answered}
 use Rattle.resolver.proofs.Answers.{answered}
+use Rattle.resolver.proofs.Places.{number-low, place-low}
 use Rattle.xkbrules.specs.Sheet.{sheetLength, littleEndian, entryAnswer, code, sheetAfter}
 use Rattle.xkbrules.proofs.Entry.{entry-same, entry-refused, entry-short}
-use Rattle.xkbrules.proofs.Places.{place-low}
-
-number-few : (room : ℕ) (a : Answer) → Answered room a → numberOf a ≤ 11
-unfolding Answered numberOf
-number-few room (refused r) h = h .1
-number-few room (accepted ts) h = omega arith
 
 -- what is returned, and what the texts and the sheet hold after it
 abbrev Entered : Text → Text → Text → Text → ℕ → Answer → Type 0
@@ -36,7 +31,7 @@ module _ (d f : Text) (t : Texts) (o : Outcome) (found : o ≡ outcome (answer (
   lengths = ap (λ (x : Outcome). x .lengths) found
 
   pub packs : (o .number ≤ 11) × (o .place ≤ 65537)
-  packs = (rw number (number-few (length d) _ (answered (length d) f t)), rw place (place-low (length d) f t))
+  packs = (rw number (number-low (length d) f t), rw place (place-low (length d) f t))
 
   module _ (s : Text) where
     -- a refusal of the resolve

@@ -1,4 +1,4 @@
--- The place of every answer is small: a text's number, a line of a file that is not too long, or 0.
+-- The number and the place of every answer are small: a place is a text's number, a line of a file that is not too long, or 0.
 use Prim.Native.Nat.{ℕ, zero, suc, _+_, _≤_}
 use native.Mathlib.Omega.{arith}
 use mathlib.Core.Path.{_≡_, refl, ap}
@@ -22,7 +22,8 @@ use Rattle.rules.specs.Headings.{Heading}
 use Rattle.rules.specs.Entries.{Entry, ignored, wrong, group, set, rule, entryOf}
 use Rattle.rules.specs.Sections.{Rule, Head, bad, defines, applies, Section, Sections, addEntry, sections}
 use Rattle.rules.specs.Faults.{Groups, defined, withGroup, ruleFault, orphans, headFaults, faults, lineFaults, fileRefusals}
-use Rattle.resolver.specs.Answer.{tenTexts, total, noRoom, refusals, firstOf, answer, placeOf}
+use Rattle.resolver.specs.Answer.{tenTexts, total, noRoom, refusals, Answer, refused, accepted, firstOf, answer, numberOf, placeOf, Answered}
+use Rattle.resolver.proofs.Answers.{answered}
 
 -- a line's number is at most m, where the file's bytes and the first line's number are together
 
@@ -165,3 +166,12 @@ place-low room f t = go (ltb longestFile (length f)) refl
         rw e (first-low _ (tenTexts f t)
         (all-append (low most) (profileRefusals t) _ (profile-low t) (all-append (low most) (lineFaults f) _ (file-low most f l)
         (if-low most (noRoom room (total (tenTexts f t))) 11 0 refl))))
+
+-- and a number
+few : (room : ℕ) (a : Answer) → Answered room a → numberOf a ≤ 11
+unfolding Answered numberOf
+few room (refused r) h = h .1
+few room (accepted ts) h = omega arith
+
+pub number-low : (room : ℕ) (f : Text) (t : Texts) → numberOf (answer room f t) ≤ 11
+number-low room f t = few room (answer room f t) (answered room f t)
