@@ -1,0 +1,3 @@
+pub mod Cuts
+pub mod Prints
+pub mod Runs

@@ -1,0 +1,35 @@
+use borrow.Author.Needs.{needs}
+use Rattle.xkbresolve.proofs.printing.put_component.Statement.{statement}
+use Rattle.xkbresolve.proofs.printing.put_component.Tie as tie
+use mathlib.Core.Path.{sym, subst}
+use Rattle.output.specs.Store.{Wrote}
+use Rattle.xkbresolve.proofs.Prints.{wrote-component}
+
+put-text-requires : tie.Need-put-text-requires
+put-text-requires c κs = search needs
+
+component-requires : tie.Need-component-requires
+component-requires c κs = search needs
+
+put-text-requires-2 : tie.Need-put-text-requires-2
+put-text-requires-2 c κs = search needs
+
+put-byte-requires : tie.Need-put-byte-requires
+put-byte-requires c κs = search needs
+
+same-length : tie.Need-same-length
+same-length c = search needs
+
+returns : tie.Need-returns
+returns c = wrote-component _ _ _ _ _ _ _ _ _ _ (c .before .before .before .before .before .before .before .before .before .before .before .before .before .before .before .before .pre) (c .before .before .before .before .before .before .before .before .before .before .before .put-text .ensures) (rw (← c .before .before .before .before .before .before .before .before .component .ensures) (c .before .before .before .before .before .before .put-text2 .ensures)) (c .before .before .put-byte .ensures)
+
+pub put-component-spec : {M : Type 1} → statement M
+put-component-spec =
+    tie.close
+    (tie.spec
+    put-text-requires
+    component-requires
+    put-text-requires-2
+    put-byte-requires
+    same-length
+    returns)

@@ -1,0 +1,37 @@
+// The lines of the input.
+ghost use mathlib.Core.Path.{_≡_};
+ghost use lib.ListN.{length};
+ghost use Rattle.xkbresolve.specs.Program.{firstLine, laterLines};
+
+fn line_length(s: &[u8]) -> usize
+    ensures { λ r. ⌜ r ≡ length (firstLine (now (s .entry))) ⌝ }
+{
+    let mut i: usize = 0;
+    while i < s.len() {
+        if s[i] == 10 {
+            return i;
+        }
+        i += 1;
+    }
+    i
+}
+
+// The first line, without its LF.
+pub fn first_line<'a>(s: &'a [u8]) -> &'a [u8]
+    ensures { λ r. ⌜ now r ≡ firstLine (now (s .entry)) ⌝ }
+{
+    let end = line_length(s);
+    &s[0..end]
+}
+
+// What stands behind the first LF.
+pub fn later_lines<'a>(s: &'a [u8]) -> &'a [u8]
+    ensures { λ r. ⌜ now r ≡ laterLines (now (s .entry)) ⌝ }
+{
+    let end = line_length(s);
+    if end < s.len() {
+        let next = end + 1;
+        return &s[next..];
+    }
+    &s[end..]
+}
