@@ -1,0 +1,126 @@
+/* xkbrules: resolves an XKB rules file for a keyboard profile (model, layouts, variants, options) into the five component strings keycodes, types,
+   compat, symbols and geometry, or says why it can't. Link with libxkbrules.a; nothing else is needed. C99 or C++.
+
+   Every slice is a pointer and its length in bytes. Texts are bytes and need no closing zero. A slice of length 0 may have any pointer, also NULL.
+   `texts` and `sheet` are written: they must not overlap each other or any other slice of the call. The others are only read, and may overlap.
+
+   The functions keep no state between calls, allocate nothing and lock nothing, so any number of threads may call them at once, each with its own
+   `texts` and `sheet`. They always return. They use about 20 KiB of stack.
+
+   An example:
+
+       uint8_t texts[XKBRULES_ROOM], sheet[XKBRULES_SHEET];
+       uint64_t answer = xkbrules_resolve(rules, rules_len, (const uint8_t *)"pc105", 5, (const uint8_t *)"us,fr", 5, NULL, 0, NULL, 0,
+                                          texts, sizeof texts, sheet, sizeof sheet);
+       if (xkbrules_number(answer) != XKBRULES_ACCEPTED) {
+           printf("refused %u at %llu\n", xkbrules_number(answer), (unsigned long long)xkbrules_place(answer));
+       } else {
+           uint64_t c = xkbrules_component(texts, sizeof texts, sheet, sizeof sheet, XKBRULES_SYMBOLS);
+           printf("%.*s\n", (int)xkbrules_length(c), (const char *)texts + xkbrules_start(c));
+       }
+*/
+#ifndef XKBRULES_H
+#define XKBRULES_H
+
+#include <stddef.h>
+#include <stdint.h>
+
+#ifdef __cplusplus
+extern "C" {
+#endif
+
+/* The number of an answer. The place is the text's number (1 model, 2 layouts, 3 variants, 4 options) for 1 and 2, the line of the rules file, counted
+   from 1, for 4 to 10, and 0 for the others. The lowest of 1 to 3 comes first, then the first bad line with its lowest number, and 11 comes last. */
+enum xkbrules_refusal {
+    XKBRULES_ACCEPTED = 0,         /* not refused: the five strings are there */
+    XKBRULES_BAD_TEXT = 1,         /* a text over 1,024 bytes, a field over 64, or a byte that isn't 0x21 to 0x7E */
+    XKBRULES_TOO_MANY = 2,         /* over 4 layouts, more variants than layouts, or over 64 options */
+    XKBRULES_LONG_FILE = 3,        /* rules of over 65,536 bytes */
+    XKBRULES_BAD_BYTE = 4,         /* outside a comment, a byte that has no place in rules, or a backslash not at the line's end */
+    XKBRULES_LONG_WORD = 5,        /* a word of over 256 bytes */
+    XKBRULES_BAD_LINE = 6,         /* a line that is no heading, group or rule, or a rule that doesn't fit its heading */
+    XKBRULES_BAD_HEADING = 7,      /* a heading with an item that is unknown, on the wrong side or repeated, or with bad or unlike indexes */
+    XKBRULES_BAD_PERCENT = 8,      /* a percent sign that starts no known item */
+    XKBRULES_INCLUDE = 9,          /* an include line: write the included rules out */
+    XKBRULES_BAD_GROUP = 10,       /* a group defined twice, or a 65th */
+    XKBRULES_NO_ROOM = 11          /* the strings don't fit `texts` or are over 1,048,576 bytes, or `sheet` is under 40 bytes */
+};
+
+/* The components, by their numbers. */
+enum {
+    XKBRULES_KEYCODES = 0,
+    XKBRULES_TYPES = 1,
+    XKBRULES_COMPAT = 2,
+    XKBRULES_SYMBOLS = 3,
+    XKBRULES_GEOMETRY = 4
+};
+
+/* Sizes. The strings of the stock rules files take a few hundred bytes, so 65,536 for `texts` is ample for them; more than 1,048,576 is of no use, as
+   longer strings are refused. */
+enum {
+    XKBRULES_SHEET = 40,
+    XKBRULES_ROOM = 65536,
+    XKBRULES_MOST_ROOM = 1048576
+};
+
+/* Resolves a rules file for a profile.
+
+   rules     the bytes of the rules file, at most 65,536
+   model     one model
+   layouts   one to four layouts with commas between; an empty text is one empty layout
+   variants  a variant for each layout, with commas between; missing ones are empty
+   options   at most 64 options with commas between; empty ones are dropped
+   texts     room for the strings: accepted, it starts with ten texts without gaps, base and additions of each component in the order of their numbers
+   sheet     room for the ten texts' lengths: accepted, its first 40 bytes hold them as little-endian 32-bit numbers
+
+   Returns the answer: 0 where the profile is accepted, else a refusal's number times 2^48 plus its place. All other bytes of `texts` and `sheet` stay as
+   they were; after a refusal, all of them. */
+uint64_t xkbrules_resolve(const uint8_t *rules, size_t rules_len,
+                          const uint8_t *model, size_t model_len,
+                          const uint8_t *layouts, size_t layouts_len,
+                          const uint8_t *variants, size_t variants_len,
+                          const uint8_t *options, size_t options_len,
+                          uint8_t *texts, size_t texts_len,
+                          uint8_t *sheet, size_t sheet_len);
+
+/* Where one component stands in the texts of an accepted answer, base and additions together.
+
+   texts      the texts as xkbrules_resolve left them, with the same length
+   sheet      the sheet as xkbrules_resolve left it
+   component  XKBRULES_KEYCODES to XKBRULES_GEOMETRY
+
+   Returns the string's start in `texts` times 2^32 plus its length. 0, the empty string at the start, for any other component, for a sheet under 40 bytes,
+   and for lengths that add up to more than texts_len or to 2^32 or more. */
+uint64_t xkbrules_component(const uint8_t *texts, size_t texts_len,
+                            const uint8_t *sheet, size_t sheet_len,
+                            uint64_t component);
+
+/* The number of an answer: one of enum xkbrules_refusal. */
+static inline unsigned xkbrules_number(uint64_t answer)
+{
+    return (unsigned)(answer >> 48);
+}
+
+/* The place of an answer. */
+static inline uint64_t xkbrules_place(uint64_t answer)
+{
+    return answer & UINT64_C(0xFFFFFFFFFFFF);
+}
+
+/* The start of a component that xkbrules_component gave. */
+static inline size_t xkbrules_start(uint64_t component)
+{
+    return (size_t)(component >> 32);
+}
+
+/* Its length. */
+static inline size_t xkbrules_length(uint64_t component)
+{
+    return (size_t)(component & UINT64_C(0xFFFFFFFF));
+}
+
+#ifdef __cplusplus
+}
+#endif
+
+#endif
