@@ -48,12 +48,12 @@ pub extern "C" fn xkbrules_resolve(
         return packed(m.number, m.place);
     }
     let a = resolve(rules, model, layouts, variants, options, texts);
-    if a.number != 0 {
-        return packed(a.number, a.place);
+    if a.number == 0 {
+        let lengths = a.lengths;
+        put_lengths(sheet, lengths);
+        return 0;
     }
-    let lengths = a.lengths;
-    put_lengths(sheet, lengths);
-    0
+    packed(a.number, a.place)
 }
 
 // Where a component stands in `texts` by the lengths in `sheet`: its start times 2^32 plus its length. 0 for a number over 4, a sheet under 40 bytes, and
