@@ -6,18 +6,16 @@ use mathlib.Core.Path.{_≡_, refl, sym, ap, _∙_}
 use mathlib.Core.List.{List, [], _∷_, _++_, append-nil}
 use mathlib.Core.Bool.{Bool, true, false, cond}
 use lib.ListN.{length, take, drop, getD, length-append}
-use lib.Seq.{take-nil}
 use lib.Dec.{ltb}
 use borrow.Author.Tests.{lt-ltb, le-ltb, ltb-false}
-use Rattle.text.specs.Limits.{longestFile}
 use Rattle.text.specs.Bytes.{Text, bytes}
 use Rattle.io.specs.Counts.{Counts}
-use Rattle.output.specs.Store.{farthest, stored, past, Wrote}
-use Rattle.output.proofs.Stores.{length-stored, take-stored, wrote-then}
+use Rattle.output.specs.Store.{farthest, past, Wrote}
+use Rattle.output.proofs.Stores.{take-stored, wrote-then}
 use Rattle.values.proofs.Writes.{wrote-long}
-use Rattle.resolver.specs.Answer.{sum, total, Answer, refused, accepted, lengthsOf, bufferAfter, stretch, Answered}
+use Rattle.resolver.specs.Answer.{sum, total, refused, accepted, lengthsOf, bufferAfter, stretch}
 use Rattle.resolver.proofs.Stretch.{stretch-texts}
-use Rattle.xkbresolve.specs.Program.{digits, inDecimal, refusalLine, names, componentLine, componentLines, stretchLines, printed, mostPrinted}
+use Rattle.xkbresolve.specs.Program.{digits, inDecimal, refusalLine, names, componentLine, componentLines, stretchLines, printed}
 
 -- a number in decimal
 

@@ -1,9 +1,9 @@
 -- The ways out of a run: what is written is what is printed of the input's answer.
-use Prim.Native.Nat.{ℕ, suc, _+_, _≤_, _<_}
+use Prim.Native.Nat.{ℕ, suc, _≤_, _<_}
 use native.Mathlib.Omega.{arith}
 use mathlib.Core.Path.{_≡_, refl, sym, ap, _∙_}
-use mathlib.Core.List.{List, _++_}
-use lib.ListN.{length, take, drop, length-append}
+use mathlib.Core.List.{List}
+use lib.ListN.{length, take, length-append}
 use borrow.Author.Tests.{lt-ltb, le-ltb}
 use Rattle.io.specs.Counts.{Counts}
 use Rattle.text.specs.Limits.{longestFile}
@@ -14,7 +14,7 @@ use Rattle.resolver.specs.declared.Outcome.{Outcome}
 use Rattle.resolver.specs.Answer.{total, Answer, refused, accepted, answer, numberOf, placeOf, lengthsOf, outcome, bufferAfter, Answered}
 use Rattle.resolver.proofs.Answers.{answered}
 use Rattle.resolver.proofs.Places.{number-low, place-low}
-use Rattle.xkbresolve.specs.Program.{firstLine, laterLines, inputTexts, inputRules, lentRoom, inputAnswer, digits, inDecimal, refusalLine, names, stretchLines, printed, mostPrinted}
+use Rattle.xkbresolve.specs.Program.{firstLine, laterLines, inputTexts, inputRules, lentRoom, inputAnswer, inDecimal, refusalLine, names, stretchLines, printed, mostPrinted}
 use Rattle.xkbresolve.proofs.Prints.{digits-few, lines-same, size, lines-length, out-text, out-counts}
 
 -- the answer, by the lines of the input

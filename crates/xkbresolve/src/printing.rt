@@ -1,5 +1,4 @@
 // An answer as it is printed, written into a lent buffer.
-ghost use mathlib.Core.List.{_++_};
 ghost use Prim.Native.Nat.{_≤_};
 ghost use lib.ListN.{length};
 ghost use Rattle.output.specs.Store.{farthest, Wrote};

@@ -1,7 +1,7 @@
 // The sheet of lengths: ten numbers of four bytes each, the lowest byte first.
 ghost use mathlib.Core.Path.{_≡_};
 ghost use mathlib.Core.List.{_++_};
-ghost use Prim.Native.Nat.{_+_, _^_, _≤_, _<_};
+ghost use Prim.Native.Nat.{_+_, _≤_, _<_};
 ghost use lib.ListN.{length, take, drop};
 ghost use Rattle.text.specs.Bytes.{concatMap};
 ghost use Rattle.xkbrules.specs.Sheet.{sheetLength, littleEndian, numberAt, lengthsIn};

@@ -11,9 +11,9 @@ use resolver::components::sum_first;
 use resolver::resolving::measure;
 use resolver::resolving::resolve;
 
-pub mod lengths;
+mod lengths;
 
-// A number of document 01 and a place below 2^48, in one number.
+// A refusal's number and place in one number: no place is over 65,537, a line more than the longest file has bytes.
 fn packed(number: usize, place: usize) -> u64
     requires { ⌜ (number ≤ 11) × (place ≤ 65537) ⌝ }
     ensures { λ r. ⌜ r ≡ number * 2 ^ 48 + place ⌝ }

@@ -2,8 +2,7 @@ use borrow.Author.Needs.{needs}
 use Rattle.xkbresolve.proofs.run.Statement.{statement}
 use Rattle.xkbresolve.proofs.run.Tie as tie
 use Prim.Native.Nat.{ℕ}
-use native.Mathlib.Omega.{arith}
-use lib.ListN.{length, replicate, length-replicate}
+use lib.ListN.{replicate, length-replicate}
 use denote.Ref.{now}
 use Rattle.xkbresolve.proofs.Runs.{input-answer, out-long, out-refused, out-accepted}
 

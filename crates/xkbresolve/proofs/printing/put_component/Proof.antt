@@ -1,8 +1,6 @@
 use borrow.Author.Needs.{needs}
 use Rattle.xkbresolve.proofs.printing.put_component.Statement.{statement}
 use Rattle.xkbresolve.proofs.printing.put_component.Tie as tie
-use mathlib.Core.Path.{sym, subst}
-use Rattle.output.specs.Store.{Wrote}
 use Rattle.xkbresolve.proofs.Prints.{wrote-component}
 
 put-text-requires : tie.Need-put-text-requires
