@@ -28,3 +28,4 @@ pub mod Walks
 pub mod SetLines
 pub mod FileWalks
 pub mod Resolves
+pub mod Resolutions

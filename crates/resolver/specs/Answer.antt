@@ -77,6 +77,16 @@ unfoldable pub bufferAfter : Text → Answer → Text
 bufferAfter d (refused r) = d
 bufferAfter d (accepted ts) = joined ts ++ drop (total ts) d
 
+-- What a resolve is: of a file f, four texts t and a lent buffer, which goes from d to d′, it makes the answer r.
+pub record Resolved (f : Text) (t : Texts) (d d′ : Text) (r : Outcome) : Type 0 where
+  pub result : r ≡ outcome (answer (length d) f t)
+  pub buffer : d′ ≡ bufferAfter d (answer (length d) f t)
+
+-- the texts of these lengths that a buffer begins with, "without gaps"
+unfoldable pub textsIn : Text → List ℕ → List Text
+textsIn d [] = []
+textsIn d (n ∷ ns) = take n d ∷ textsIn (drop n d) ns
+
 -- "A caller may ask for one component and gets back that stretch of its own buffer, base and additions together; a component number over 4, or ten
 -- lengths whose sum is over the buffer's, get the empty stretch."
 unfoldable pub stretchStart : List ℕ → ℕ → ℕ
