@@ -13,17 +13,17 @@ use Rattle.profile.specs.Profile.{Texts, profileOf, layoutCount, optionsOf}
 use Rattle.profile.specs.Options.{Alike, Within, withOptions}
 use Rattle.profile.proofs.Counts as counted
 use Rattle.rules.specs.Names.{definesOf, namesOf}
-use Rattle.resolver.specs.Firings.{fileFirings}
-use Rattle.resolver.specs.Components.{valuesOf, base, additions, updates}
-use Rattle.resolver.specs.declared.Outcome.{Outcome}
-use Rattle.resolver.specs.Answer.{Answer, refused, accepted, answer, tenTexts, sum, total, numberOf, placeOf, lengthsOf, bufferAfter, stretchStart, stretchLength, stretch, Answered, Resolved, textsIn}
-use Rattle.resolver.specs.Joined.{together}
-use Rattle.resolver.proofs.Updates.{stepwise}
-use Rattle.resolver.proofs.Firings.{file-values}
-use Rattle.resolver.proofs.Accepted as fits
-use Rattle.resolver.proofs.Answers as laws
+use Rattle.answers.specs.Firings.{fileFirings}
+use Rattle.answers.specs.Components.{valuesOf, base, additions, updates}
+use Rattle.answers.specs.declared.Outcome.{Outcome}
+use Rattle.answers.specs.Answer.{Answer, refused, accepted, answer, tenTexts, sum, total, numberOf, placeOf, lengthsOf, bufferAfter, stretchStart, stretchLength, stretch, Answered, Resolved, textsIn}
+use Rattle.answers.specs.Joined.{together}
+use Rattle.answers.proofs.Updates.{stepwise}
+use Rattle.answers.proofs.Firings.{file-values}
+use Rattle.answers.proofs.Accepted as fits
+use Rattle.answers.proofs.Answers as laws
 use Rattle.resolver.proofs.Resolutions as resolves
-use Rattle.resolver.proofs.Stretch as parts
+use Rattle.answers.proofs.Stretch as parts
 use Rattle.xkbrules.specs.Sheet.{sheetLength, entryAnswer, sheetAfter, lengthsIn, componentCode}
 use Rattle.xkbrules.proofs.Sheet as sheets
 use Rattle.xkbrules.proofs.Entry as entry

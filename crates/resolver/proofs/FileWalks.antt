@@ -12,14 +12,14 @@ use Rattle.profile.specs.Profile.{Profile}
 use Rattle.rules.specs.Faults.{lineFaults}
 use Rattle.rules.specs.Checking.{Ready, leftFaults}
 use Rattle.rules.proofs.FileChecks.{start, scan-start, no-lines}
-use Rattle.resolver.specs.declared.Cursors.{Cursors}
+use Rattle.firing.specs.declared.Cursors.{Cursors}
 use Rattle.resolver.specs.declared.Walk.{Walk}
-use Rattle.resolver.specs.Firings.{fileFirings}
-use Rattle.resolver.specs.Writing.{Low}
-use Rattle.resolver.specs.Groups.{groupsAt, Rowed}
+use Rattle.answers.specs.Firings.{fileFirings}
+use Rattle.firing.specs.Writing.{Low}
+use Rattle.matching.specs.Groups.{groupsAt, Rowed}
 use Rattle.resolver.specs.Running.{firingsFrom, leftFirings, WalkedLine, WalkedFile}
-use Rattle.resolver.proofs.Filling.{rowed-none}
-use Rattle.resolver.proofs.Going.{Going, going-start, going-end}
+use Rattle.matching.proofs.Filling.{rowed-none}
+use Rattle.firing.proofs.Going.{Going, going-start, going-end}
 use Rattle.resolver.proofs.LineFirings.{firings-start, firings-none}
 
 -- what has been walked of the file is written, and the rest is as it was

@@ -12,11 +12,11 @@ use Rattle.text.specs.Lines.{closed}
 use Rattle.profile.specs.Profile.{Texts}
 use Rattle.profile.specs.Options.{Alike, Within, withOptions}
 use Rattle.rules.specs.Names.{definesOf, namesOf}
-use Rattle.resolver.specs.declared.Outcome.{Outcome}
-use Rattle.resolver.specs.Answer.{tenTexts, sum, joined, total, Answer, refused, accepted, answer, numberOf, placeOf, lengthsOf, outcome, bufferAfter, Answered, Resolved, textsIn}
-use Rattle.resolver.specs.Joined.{together}
-use Rattle.resolver.proofs.Answers.{answered, joined-answer, options-answer}
-use Rattle.resolver.proofs.Stretch.{joined-length}
+use Rattle.answers.specs.declared.Outcome.{Outcome}
+use Rattle.answers.specs.Answer.{tenTexts, sum, joined, total, Answer, refused, accepted, answer, numberOf, placeOf, lengthsOf, outcome, bufferAfter, Answered, Resolved, textsIn}
+use Rattle.answers.specs.Joined.{together}
+use Rattle.answers.proofs.Answers.{answered, joined-answer, options-answer}
+use Rattle.answers.proofs.Stretch.{joined-length}
 use Rattle.resolver.proofs.Resolves.{Accepts, accepts}
 
 -- the ten texts, read back by their lengths

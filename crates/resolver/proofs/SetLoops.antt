@@ -23,14 +23,15 @@ use Rattle.rules.specs.Checking.{lineOf, presentOf, checkFrom}
 use Rattle.rules.proofs.CheckSteps.{line-read, line-high, line-on, line-few}
 use Rattle.values.specs.Spread.{expanded}
 use Rattle.values.proofs.Profiles.{expanded-options}
-use Rattle.resolver.specs.declared.Cursors.{Cursors}
-use Rattle.resolver.specs.Matching.{members, columnMatches, ruleMatches}
-use Rattle.resolver.specs.Rows.{matchesAt}
-use Rattle.resolver.specs.Firings.{Firing, fired, ruleFires, setFires}
-use Rattle.resolver.specs.Writing.{Low, runBuf, runCur}
-use Rattle.resolver.specs.Running.{FiredRule, rulesFrom, columnBy, headingBy, SetSized, FiredSet}
-use Rattle.resolver.proofs.HeldHeadings.{columns-length, components-length, components-are, right-are, column-at, matches-by}
-use Rattle.resolver.proofs.Going.{Going, going-start, going-more, going-end}
+use Rattle.firing.specs.declared.Cursors.{Cursors}
+use Rattle.answers.specs.Matching.{members, columnMatches, ruleMatches}
+use Rattle.matching.specs.Rows.{matchesAt}
+use Rattle.answers.specs.Firings.{Firing, fired, ruleFires, setFires}
+use Rattle.firing.specs.Writing.{Low, runBuf, runCur, FiredRule}
+use Rattle.matching.specs.Held.{columnBy, headingBy, SetSized}
+use Rattle.resolver.specs.Running.{rulesFrom, FiredSet}
+use Rattle.matching.proofs.HeldHeadings.{columns-length, components-length, components-are, right-are, column-at, matches-by}
+use Rattle.firing.proofs.Going.{Going, going-start, going-more, going-end}
 use Rattle.resolver.proofs.SetRuns.{CleanLine, clean-line, run-end, run-heading, run-ignored, run-miss, run-hit}
 
 -- a rule's values do not look at the options

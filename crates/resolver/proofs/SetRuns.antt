@@ -27,8 +27,8 @@ use Rattle.rules.specs.Checking.{lineOf, presentOf, presentFault, lineFault, pr
 use Rattle.rules.proofs.Fresh.{as-none}
 use Rattle.rules.proofs.CheckSteps.{check-cons}
 use Rattle.rules.proofs.LineChecks.{form-is}
-use Rattle.resolver.specs.Matching.{members, columnMatches, ruleMatches}
-use Rattle.resolver.specs.Firings.{Firing, ruleFires, setFires}
+use Rattle.answers.specs.Matching.{members, columnMatches, ruleMatches}
+use Rattle.answers.specs.Firings.{Firing, ruleFires, setFires}
 use Rattle.resolver.specs.Running.{rulesFrom}
 use Rattle.resolver.proofs.LineFirings.{nextRules, rules-line, rules-none}
 

@@ -32,16 +32,17 @@ use Rattle.rules.proofs.Fresh.{as-none}
 use Rattle.rules.proofs.CheckSteps.{check-cons, entry-any, left-is, line-read, line-high, line-few, step-ignored, step-rule, step-set, step-group, zero-none, group-is, group-word, name-text}
 use Rattle.rules.proofs.Numbers.{goodEntry, entry-good}
 use Rattle.rules.proofs.GroupNames.{names-length}
-use Rattle.resolver.specs.declared.Cursors.{Cursors}
+use Rattle.firing.specs.declared.Cursors.{Cursors}
 use Rattle.resolver.specs.declared.Walk.{Walk}
-use Rattle.resolver.specs.Firings.{Firing, headFires}
-use Rattle.resolver.specs.Writing.{Low, runBuf, runCur}
-use Rattle.resolver.specs.Groups.{groupsAt, Rowed, Noted}
-use Rattle.resolver.specs.Running.{headingBy, SetSized, rulesFrom, firingsFrom, leftFirings, FiredHeading, WalkedLine}
-use Rattle.resolver.specs.Ranges.{FromOne}
-use Rattle.resolver.proofs.Written.{buf-append, cur-append, length-run}
-use Rattle.resolver.proofs.Going.{low-run}
-use Rattle.resolver.proofs.HeldHeadings.{heading-held, sized-held}
+use Rattle.answers.specs.Firings.{Firing, headFires}
+use Rattle.firing.specs.Writing.{Low, runBuf, runCur}
+use Rattle.matching.specs.Groups.{groupsAt, Rowed, Noted}
+use Rattle.matching.specs.Held.{headingBy, SetSized}
+use Rattle.resolver.specs.Running.{rulesFrom, firingsFrom, leftFirings, FiredHeading, WalkedLine}
+use Rattle.matching.specs.Ranges.{FromOne}
+use Rattle.firing.proofs.Written.{buf-append, cur-append, length-run}
+use Rattle.firing.proofs.Going.{low-run}
+use Rattle.matching.proofs.HeldHeadings.{heading-held, sized-held}
 use Rattle.resolver.proofs.Indexed.{index-from-one}
 use Rattle.resolver.proofs.SetLines.{set-good, set-short}
 use Rattle.resolver.proofs.SetRuns.{fault-rule, fault-wrong}

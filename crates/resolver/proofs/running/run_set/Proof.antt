@@ -12,16 +12,16 @@ use Rattle.rules.specs.Splitting.{wordsOf}
 use Rattle.rules.specs.Checking.{namesAt}
 use Rattle.rules.proofs.Pieces.{tail-whole}
 use Rattle.rules.proofs.CheckSteps.{fence-tail}
-use Rattle.resolver.specs.Groups.{groupsAt}
-use Rattle.resolver.specs.Matching.{members}
-use Rattle.resolver.specs.Running.{columnBy, headingBy}
-use Rattle.resolver.proofs.HeldHeadings.{layout-asked, columns-length}
+use Rattle.matching.specs.Groups.{groupsAt}
+use Rattle.answers.specs.Matching.{members}
+use Rattle.matching.specs.Held.{columnBy, headingBy}
+use Rattle.matching.proofs.HeldHeadings.{layout-asked, columns-length}
 use Rattle.resolver.proofs.SetRuns.{Matched, matched-start, matched-more, matched-miss, matched-end}
 use Rattle.resolver.proofs.SetLoops.{SetGoing, set-start, set-over, set-stop, line-clean, set-pass, set-miss, set-once, set-more, RuleRead, rule-read, column-told, rule-told, words-asked}
 use Rattle.resolver.proofs.running.run_set.Statement.{statement}
 use Rattle.resolver.proofs.running.run_set.Tie as tie
-use Rattle.resolver.proofs.firing.fire_rule.Reads as fire-rule-reads
-use Rattle.resolver.proofs.matching.column_matches.Reads as column-matches-reads
+use Rattle.firing.proofs.rule.fire_rule.Reads as fire-rule-reads
+use Rattle.matching.proofs.columns.column_matches.Reads as column-matches-reads
 use Rattle.rules.proofs.check.fence_behind.Reads as fence-behind-reads
 use Rattle.rules.proofs.lines.split_line.Reads as split-line-reads
 use Rattle.rules.proofs.sets.word.Reads as word-reads

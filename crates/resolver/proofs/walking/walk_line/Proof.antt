@@ -7,7 +7,7 @@ use Rattle.resolver.proofs.Walks.{on-high, on-few, group-room, walk-ign
 use borrow.Author.Needs.{needs}
 use Rattle.resolver.proofs.walking.walk_line.Statement.{statement}
 use Rattle.resolver.proofs.walking.walk_line.Tie as tie
-use Rattle.resolver.proofs.groups.note_group.Reads as note-group-reads
+use Rattle.matching.proofs.groups.note_group.Reads as note-group-reads
 use Rattle.resolver.proofs.running.run_heading.Reads as run-heading-reads
 use Rattle.rules.proofs.check.fence_behind.Reads as fence-behind-reads
 use Rattle.rules.proofs.judge.line_kind.Reads as line-kind-reads

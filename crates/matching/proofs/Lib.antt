@@ -1,0 +1,6 @@
+pub mod GroupRows
+pub mod Matches
+pub mod Filling
+pub mod Noting
+pub mod LayoutRange
+pub mod HeldHeadings

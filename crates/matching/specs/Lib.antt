@@ -1,0 +1,4 @@
+pub mod Groups
+pub mod Rows
+pub mod Ranges
+pub mod Held
