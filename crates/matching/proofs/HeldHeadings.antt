@@ -40,8 +40,8 @@ heading-held h r v =
     let c : map columnBy (take (r .left) (r .columns)) ≡ h .columns = ap (map columnBy) (sym (v .columns)) ∙ columns-by (h .columns) in
     rw (c, v .index, ← v .components)
 
-pub sized-held : (h : Heading) (r : SetHeading) → Holds h r → SetSized r
-sized-held h r v = record { left = v .fewLeft; right = v .fewRight; columns = v .sizeLeft; components = v .sizeRight }
+pub sized-held : (h : Heading) (r : SetHeading) → Holds h r → 1 ≤ length (h .columns) → SetSized r
+sized-held h r v n = record { some = omega (arith, n, v .left); left = v .fewLeft; right = v .fewRight; columns = v .sizeLeft; components = v .sizeRight }
 
 length-map {ℓ κ} : {A : Type ℓ} {B : Type κ} (f : A → B) (xs : List A) → length (map f xs) ≡ length xs
 length-map f [] = refl

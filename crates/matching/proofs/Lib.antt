@@ -4,3 +4,4 @@ pub mod Filling
 pub mod Noting
 pub mod LayoutRange
 pub mod HeldHeadings
+pub mod LeftLoops

@@ -16,8 +16,9 @@ columnBy c = cond (eqb c 1) column.Model (cond (eqb c 2) column.Layout (cond (eq
 unfoldable pub headingBy : SetHeading → Heading
 headingBy r = record { columns = map columnBy (take (r .left) (r .columns)); index = r .index; components = take (r .right) (r .components) }
 
--- a heading has room for its numbers
+-- a heading has a column, and room for its numbers
 pub record SetSized (h : SetHeading) : Type 0 where
+  pub some : 1 ≤ h .left
   pub left : h .left ≤ 4
   pub right : h .right ≤ 5
   pub columns : length (h .columns) ≡ 5

@@ -2,6 +2,9 @@
 ghost use mathlib.Core.Path.{_≡_};
 ghost use Prim.Native.Nat.{_<_, _≤_};
 ghost use lib.ListN.{length};
+ghost use Rattle.text.specs.Reading.{Within};
+ghost use Rattle.matching.specs.Held.{columnBy};
+ghost use Rattle.matching.specs.Left.{LeftRead};
 ghost use Rattle.text.specs.Limits.{mostOptions};
 ghost use Rattle.text.specs.Bytes.{same as sameText, anyOf};
 ghost use Rattle.profile.specs.Profile.{textsOf, profileOf, optionsOf};
@@ -10,12 +13,15 @@ ghost use Rattle.rules.specs.Checking.{Named};
 ghost use Rattle.answers.specs.Matching.{members};
 ghost use Rattle.matching.specs.Groups.{groupsAt, Rowed};
 ghost use Rattle.matching.specs.Rows.{Told, ofWord, ofStar, ofValue, matchesAt};
+use super::LeftWord;
 use super::groups::group_asked;
 use profile::fields::field;
 use profile::table::has_option;
 use rules::words::has_dollar;
 use rules::words::is_star;
+use text::Next;
 use text::compare::same;
+use text::reader::next_word;
 
 // A `$` word by question j, any other by the value.
 fn word_matches(
@@ -136,4 +142,71 @@ pub fn column_matches(
         return value_matches(w, field(variants, k - 1), s, names, rows, n, k + 4);
     }
     option_matches(w, options, table, count, s, names, rows, n)
+}
+
+// The next word of a line, held against a column; no word does not match.
+pub fn left_word(
+    s: &[u8],
+    t: &[u8; 512],
+    fence: usize,
+    from: usize,
+    line: usize,
+    c: usize,
+    k: usize,
+    names: &[usize; 128],
+    rows: &[bool; 640],
+    n: usize,
+    model: &[u8],
+    layouts: &[u8],
+    variants: &[u8],
+    options: &[u8],
+    table: &[usize; 128],
+    count: usize,
+) -> LeftWord
+    requires { ⌜ Within (now s) (now t) fence from line
+        × Named (now s) (now names) n
+        × Rowed (profileOf (textsOf (now model) (now layouts) (now variants) (now options))) (now s) (now names) (now rows) n
+        × Listed (now options) (now table) count
+        × (length (optionsOf (now options)) ≤ mostOptions)
+        × (k ≤ 4)
+        × (c ≡ 2 → 1 ≤ k)
+        × (c ≡ 3 → 1 ≤ k) ⌝ }
+    ensures { λ r. ⌜ LeftRead (members (groupsAt (now (s .entry)) (now (names .entry)) n))
+        (profileOf (textsOf (now (model .entry)) (now (layouts .entry)) (now (variants .entry)) (now (options .entry))))
+        k (columnBy c) (now (s .entry)) from line r ⌝ }
+{
+    match next_word(s, t, fence, from, line) {
+        Next::Found {
+            start,
+            end,
+            line,
+            fault: _,
+        } => {
+            let matched = column_matches(
+                c,
+                &s[start..end],
+                k,
+                s,
+                names,
+                rows,
+                n,
+                model,
+                layouts,
+                variants,
+                options,
+                table,
+                count,
+            );
+            LeftWord {
+                matched,
+                at: end,
+                line,
+            }
+        }
+        Next::Stop { next: _, line: _ } => LeftWord {
+            matched: false,
+            at: from,
+            line,
+        },
+    }
 }

@@ -9,3 +9,10 @@ pub struct Range {
     pub first: usize,
     pub count: usize,
 }
+
+// Whether a left word of a rule matches, and where it ends.
+pub struct LeftWord {
+    pub matched: bool,
+    pub at: usize,
+    pub line: usize,
+}

@@ -9,3 +9,5 @@ pub mod Walks
 pub mod FileWalks
 pub mod Resolves
 pub mod Resolutions
+pub mod RuleLines
+pub mod HeadingLines

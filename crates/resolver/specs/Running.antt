@@ -1,23 +1,26 @@
 -- What the walk over a file promises at each level: it fires the values that the definition lists.
-use Prim.Native.Nat.{ℕ}
+use Prim.Native.Nat.{ℕ, _+_, _≤_, _<_}
 use mathlib.Core.Path.{_≡_}
-use mathlib.Core.List.{List}
-use mathlib.Core.Bool.{Bool}
+use mathlib.Core.List.{List, []}
+use mathlib.Core.Bool.{Bool, true, false}
 use lib.ListN.{length}
 use Rattle.text.specs.Bytes.{Text, concatMap}
 use Rattle.text.specs.Lines.{Line}
-use Rattle.text.specs.Reading.{follow}
+use Rattle.text.specs.Reading.{left, follow, Passed, Opens}
 use Rattle.profile.specs.Profile.{Profile}
 use Rattle.rules.specs.declared.Progress.{Progress}
 use Rattle.rules.specs.Headings.{Heading, upFrom}
 use Rattle.rules.specs.Sections.{Rule, applies, sections}
-use Rattle.rules.specs.Faults.{Groups}
-use Rattle.rules.specs.Checking.{Onward}
+use Rattle.rules.specs.Faults.{Groups, rightWords}
+use Rattle.rules.specs.declared.Present.{Present}
+use Rattle.rules.specs.Checking.{checkFrom, Onward}
 use Rattle.firing.specs.declared.Cursors.{Cursors}
 use Rattle.resolver.specs.declared.Walk.{Walk}
+use Rattle.resolver.specs.declared.FiredLine.{FiredLine}
+use Rattle.resolver.specs.declared.HeadingAt.{HeadingAt}
 use Rattle.answers.specs.Matching.{members}
 use Rattle.answers.specs.Firings.{Firing, setFires, headFires, firings, fileFirings}
-use Rattle.firing.specs.Writing.{Low, startingAt, runBuf, runCur}
+use Rattle.firing.specs.Writing.{Low, FiredRule, startingAt, runBuf, runCur}
 use Rattle.matching.specs.Groups.{groupsAt, Rowed}
 
 -- the rules from a line on, up to the next heading; and what fires from a line on
@@ -64,3 +67,19 @@ pub record WalkedFile (p : Profile) (s d d′ : Text) (q q′ : Cursors) : Type 
 pub record FiredFile (p : Profile) (s d d′ : Text) (at at′ : List ℕ) : Type 0 where
   pub bytes : d′ ≡ runBuf d (startingAt at) (fileFirings s p)
   pub places : at′ ≡ runCur (startingAt at) (fileFirings s p) .at
+
+-- a rule's line from `from` on, in the physical line n, fired at the layout k; the next line is where the line ends
+pub record FiredLineOf (p : Profile) (h : Heading) (s : Text) (from n : ℕ) (d d′ : Text) (q : Cursors) (k : ℕ) (r : FiredLine) : Type 0 where
+  pub fired : FiredRule p d d′ q (r .cursors) k (h .components) (rightWords h (left s from))
+  pub passed : Passed s from n (r .at) (r .line)
+
+-- The next heading from the line at `at` on, which has the number n: what fires and what is refused before it, for whatever groups and heading so far, is
+-- nothing; or there is none.
+pub record NextHeading (s : Text) (at n : ℕ) (r : HeadingAt) : Type 0 where
+  pub low : at ≤ r .start
+  pub high : r .start ≤ length s
+  pub few : r .number ≤ r .start + 1
+  pub fires : (gs : Groups) (p : Profile) → firingsFrom gs p (follow s at n) ≡ firingsFrom gs p (follow s (r .start) (r .number))
+  pub clean : (ns : List Text) (h : Present) → checkFrom ns h (follow s at n) ≡ [] → checkFrom ns h (follow s (r .start) (r .number)) ≡ []
+  pub opens : r .found ≡ true → (r .start < length s) × Opens s (r .start) (r .number) true (r .at) (r .line)
+  pub none : r .found ≡ false → length s ≤ r .start

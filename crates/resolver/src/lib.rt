@@ -9,3 +9,19 @@ pub struct Walk {
     pub progress: rules::Progress,
     pub cursors: firing::Cursors,
 }
+
+// A rule's line that was fired: where the next line starts, its number, and what was written.
+pub struct FiredLine {
+    pub at: usize,
+    pub line: usize,
+    pub cursors: firing::Cursors,
+}
+
+// The next heading: whether there is one, where its line starts and that line's number; where its words begin, and the physical line that they begin in.
+pub struct HeadingAt {
+    pub found: bool,
+    pub start: usize,
+    pub number: usize,
+    pub at: usize,
+    pub line: usize,
+}
