@@ -19,11 +19,11 @@ use Rattle.rules.specs.Sections.{addEntry, sections}
 use Rattle.rules.specs.Words.{isEquals, isStar, hasDollar, ordinary, isGroupName, leftWord}
 use Rattle.values.specs.Spread.{isSign, signed, cuts, endsAll, stem, copy, copies, spread, expanded}
 use Rattle.values.specs.Values.{choose, valueOf, pieceText, filled}
-use Rattle.resolver.specs.Answer.{textsFrom, tenTexts, sum, joined, total, noRoom, refusals, firstOf, answer, Answer, refused, accepted, numberOf, placeOf}
-use Rattle.resolver.specs.Components.{valuesOf, base, additions}
-use Rattle.resolver.specs.Firings.{fired, ruleFires, setFires, headFires, firings, fileFirings}
-use Rattle.resolver.specs.Layouts.{layoutsAt, perLayout, layoutsOf}
-use Rattle.resolver.specs.Matching.{members, wordMatches, valueMatches, columnMatches, ruleMatches, isOptions}
+use Rattle.answers.specs.Answer.{textsFrom, tenTexts, sum, joined, total, noRoom, refusals, firstOf, answer, Answer, refused, accepted, numberOf, placeOf}
+use Rattle.answers.specs.Components.{valuesOf, base, additions}
+use Rattle.answers.specs.Firings.{fired, ruleFires, setFires, headFires, firings, fileFirings}
+use Rattle.answers.specs.Layouts.{layoutsAt, perLayout, layoutsOf}
+use Rattle.answers.specs.Matching.{members, wordMatches, valueMatches, columnMatches, ruleMatches, isOptions}
 
 -- the five strings, or the number and the place
 pub data Outcome : Type 0 where

@@ -1,7 +1,7 @@
--- What is promised of every resolve, over the definitions of document 01. Each proof cites a law.
+-- What is promised of every resolve, over the definitions of document 01, and at the end over what the running resolve leaves. Each proof cites a law.
 -- `answer` is the answer of a resolve; `entryAnswer` is that of the entry for C, which is lent a sheet for the lengths besides.
 use Prim.Native.Nat.{ℕ, _+_, _*_, _^_, _≤_, _<_}
-use mathlib.Core.Path.{_≡_, ap}
+use mathlib.Core.Path.{_≡_, sym, ap, _∙_}
 use mathlib.Core.List.{List, [], _++_, map}
 use mathlib.Core.Bool.{true}
 use lib.ListN.{length, drop, getD, replicate}
@@ -13,15 +13,17 @@ use Rattle.profile.specs.Profile.{Texts, profileOf, layoutCount, optionsOf}
 use Rattle.profile.specs.Options.{Alike, Within, withOptions}
 use Rattle.profile.proofs.Counts as counted
 use Rattle.rules.specs.Names.{definesOf, namesOf}
-use Rattle.resolver.specs.Firings.{fileFirings}
-use Rattle.resolver.specs.Components.{valuesOf, base, additions, updates}
-use Rattle.resolver.specs.Answer.{Answer, refused, accepted, answer, sum, total, numberOf, placeOf, lengthsOf, bufferAfter, stretchStart, stretchLength, stretch, Answered}
-use Rattle.resolver.specs.Joined.{together}
-use Rattle.resolver.proofs.Updates.{stepwise}
-use Rattle.resolver.proofs.Firings.{file-values}
-use Rattle.resolver.proofs.Accepted as fits
-use Rattle.resolver.proofs.Answers as laws
-use Rattle.resolver.proofs.Stretch as parts
+use Rattle.answers.specs.Firings.{fileFirings}
+use Rattle.answers.specs.Components.{valuesOf, base, additions, updates}
+use Rattle.answers.specs.declared.Outcome.{Outcome}
+use Rattle.answers.specs.Answer.{Answer, refused, accepted, answer, tenTexts, sum, total, numberOf, placeOf, lengthsOf, bufferAfter, stretchStart, stretchLength, stretch, Answered, Resolved, textsIn}
+use Rattle.answers.specs.Joined.{together}
+use Rattle.answers.proofs.Updates.{stepwise}
+use Rattle.answers.proofs.Firings.{file-values}
+use Rattle.answers.proofs.Accepted as fits
+use Rattle.answers.proofs.Answers as laws
+use Rattle.resolver.proofs.Resolutions as resolves
+use Rattle.answers.proofs.Stretch as parts
 use Rattle.xkbrules.specs.Sheet.{sheetLength, entryAnswer, sheetAfter, lengthsIn, componentCode}
 use Rattle.xkbrules.proofs.Sheet as sheets
 use Rattle.xkbrules.proofs.Entry as entry
@@ -169,3 +171,42 @@ module _ (d f : Text) (t : Texts) (o o′ : Text)
       Same d (entryAnswer (length d) (length s) f (withOptions t o)) (entryAnswer (length d) (length s) f (withOptions t o′)) ×
       (sheetAfter s (entryAnswer (length d) (length s) f (withOptions t o)) ≡ sheetAfter s (entryAnswer (length d) (length s) f (withOptions t o′)))
   options-entry s = let e = entry.entry-options (length d) (length s) f t o o′ alike within within′ in (same-answers d _ _ e, ap (sheetAfter s) e)
+
+-- The same of the running resolve. The contract of `resolve` is `Resolved f t d d′ r`: for the file f and the four texts t it answers r, and the buffer
+-- goes from d to d′.
+
+-- Demand 1: a refusal has a number from 1 to 11 and ten zero lengths, "and the buffer then holds just what it held before".
+pub resolve-refused : (f : Text) (t : Texts) (d d′ : Text) (r : Outcome) → Resolved f t d d′ r → (r .number ≡ 0 → ⊥) →
+    (1 ≤ r .number) × (r .number ≤ 11) × (r .lengths ≡ replicate 10 0) × (d′ ≡ d)
+resolve-refused f t d d′ r v h = let k = resolves.kept f t d d′ r v h in (k .least, k .most, k .lengths, k .buffer)
+
+-- Demand 2: any other answer has place 0, and "The buffer's first bytes hold the ten texts without gaps; later bytes are untouched."
+pub resolve-accepted : (f : Text) (t : Texts) (d d′ : Text) (r : Outcome) → Resolved f t d d′ r → r .number ≡ 0 →
+    (r .place ≡ 0) × (textsIn d′ (r .lengths) ≡ tenTexts f t) × (drop (sum (r .lengths)) d′ ≡ drop (sum (r .lengths)) d) × (length d′ ≡ length d)
+resolve-accepted f t d d′ r v h = let k = resolves.held f t d d′ r v h in (k .place, k .texts, k .later, k .size)
+
+-- Nothing is remembered between two resolves: the same file, texts and buffer give the same answer and the same bytes.
+pub resolve-again : (f : Text) (t : Texts) (d c′ : Text) (x : Outcome) (e′ : Text) (y : Outcome) → Resolved f t d c′ x → Resolved f t d e′ y → (x ≡ y) × (c′ ≡ e′)
+resolve-again f t d c′ x e′ y v w = (v .result ∙ sym (w .result), v .buffer ∙ sym (w .buffer))
+
+-- Demand 3, joined files: three resolves, each with a buffer of its own. The texts are those that the buffers hold.
+module _ (a b : Text) (t : Texts) (c c′ : Text) (x : Outcome) (e e′ : Text) (y : Outcome) (d d′ : Text) (z : Outcome)
+    (first : Resolved a t c c′ x)
+    (second : Resolved b t e e′ y)
+    (both : Resolved (a ++ b) t d d′ z)
+    (accepted-first : x .number ≡ 0)
+    (accepted-second : y .number ≡ 0)
+    (ended : closed a ≡ true)
+    (unshared : apart (namesOf b) (definesOf a) ≡ true)
+    (size : length (a ++ b) ≤ longestFile)
+    (groups : length (definesOf a) + length (definesOf b) ≤ mostGroups)
+    (top : total (together (textsIn c′ (x .lengths)) (textsIn e′ (y .lengths))) ≤ longestTotal)
+    (enough : total (together (textsIn c′ (x .lengths)) (textsIn e′ (y .lengths))) ≤ length d) where
+  pub joined-resolve : (z .number ≡ 0) × (textsIn d′ (z .lengths) ≡ together (textsIn c′ (x .lengths)) (textsIn e′ (y .lengths)))
+  joined-resolve = resolves.joined-resolve a b t c c′ x e e′ y d d′ z first second both accepted-first accepted-second ended unshared size groups top enough
+
+-- Demand 3, options: two resolves "that differ only in this, with buffers of the same bytes, give the same answer (number, place and lengths) and leave
+-- the same bytes".
+pub options-resolve : (f : Text) (t : Texts) (o o′ d c′ : Text) (x : Outcome) (e′ : Text) (y : Outcome) → Alike o o′ → Within o → Within o′ →
+    Resolved f (withOptions t o) d c′ x → Resolved f (withOptions t o′) d e′ y → (x ≡ y) × (c′ ≡ e′)
+options-resolve f t o o′ d c′ x e′ y alike within within′ v w = resolves.options-resolve f t o o′ d c′ x e′ y alike within within′ v w

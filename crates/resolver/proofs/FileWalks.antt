@@ -3,23 +3,24 @@ use Prim.Native.Nat.{ℕ, _≤_, _<_}
 use native.Mathlib.Omega.{arith}
 use mathlib.Core.Path.{_≡_, refl, sym, ap, _∙_}
 use mathlib.Core.List.{List, []}
-use mathlib.Core.Bool.{Bool}
+use mathlib.Core.Bool.{Bool, false}
 use lib.ListN.{length}
 use Rattle.text.specs.Bytes.{Text}
 use Rattle.text.specs.Lines.{lines}
 use Rattle.text.specs.Reading.{follow}
 use Rattle.profile.specs.Profile.{Profile}
 use Rattle.rules.specs.Faults.{lineFaults}
-use Rattle.rules.specs.Checking.{Ready, leftFaults}
+use Rattle.rules.specs.Checking.{namesAt, Ready, leftFaults}
 use Rattle.rules.proofs.FileChecks.{start, scan-start, no-lines}
-use Rattle.resolver.specs.declared.Cursors.{Cursors}
+use Rattle.firing.specs.declared.Cursors.{Cursors}
 use Rattle.resolver.specs.declared.Walk.{Walk}
-use Rattle.resolver.specs.Firings.{fileFirings}
-use Rattle.resolver.specs.Writing.{Low}
-use Rattle.resolver.specs.Groups.{groupsAt, Rowed}
-use Rattle.resolver.specs.Running.{firingsFrom, leftFirings, WalkedLine, WalkedFile}
-use Rattle.resolver.proofs.Filling.{rowed-none}
-use Rattle.resolver.proofs.Going.{Going, going-start, going-end}
+use Rattle.resolver.specs.declared.HeadingAt.{HeadingAt}
+use Rattle.answers.specs.Firings.{fileFirings}
+use Rattle.firing.specs.Writing.{Low}
+use Rattle.matching.specs.Groups.{groupsAt, Rowed}
+use Rattle.resolver.specs.Running.{firingsFrom, leftFirings, NextHeading, WalkedLine, WalkedFile}
+use Rattle.matching.proofs.Filling.{rowed-none}
+use Rattle.firing.proofs.Going.{Going, going-start, going-end}
 use Rattle.resolver.proofs.LineFirings.{firings-start, firings-none}
 
 -- what has been walked of the file is written, and the rest is as it was
@@ -60,6 +61,32 @@ module _ (p : Profile) (s : Text) (d₀ : Text) (q₀ : Cursors) where
           };
         }
 
+    -- on to the next heading
+    module _ (at : ℕ) (e : at ≡ w .progress .at) (r : HeadingAt) (n : NextHeading s at (w .progress .line) r) where
+      abbrev onto : Walk
+      onto =
+          record {
+            progress = record { at = r .start; line = r .number; groups = w .progress .groups; present = w .progress .present; fault = 0 };
+            cursors = w .cursors;
+          }
+
+      fires-on : leftFirings p s t (w .progress) ≡ leftFirings p s t (onto .progress)
+      unfolding leftFirings
+      fires-on = rw (← e) (n .fires (groupsAt s t (w .progress .groups)) p)
+
+      clean-on : leftFaults s t (onto .progress) ≡ []
+      unfolding leftFaults
+      clean-on = n .clean (namesAt s t (w .progress .groups)) (w .progress .present) (rw (← e) at (v .clean))
+
+      pub walk-on : WalkGoing p s d₀ q₀ t rows d onto
+      walk-on =
+          record {
+            ready = record { high = n .high; few = n .few; named = v .ready .named; left = v .ready .left; right = v .ready .right };
+            rowed = v .rowed;
+            clean = clean-on;
+            going = rw (← fires-on) (v .going);
+          }
+
     none-left : length s ≤ w .progress .at → leftFirings p s t (w .progress) ≡ []
     unfolding leftFirings
     none-left h = rw (no-lines s (w .progress .at) (w .progress .line) h) (firings-none (groupsAt s t (w .progress .groups)) p)
@@ -68,3 +95,8 @@ module _ (p : Profile) (s : Text) (d₀ : Text) (q₀ : Cursors) where
     walk-end h =
         let g = going-end d₀ q₀ _ d (w .cursors) (rw (none-left h) at (v .going)) in
         record { bytes = g .0; places = g .1 }
+
+-- no heading is left
+pub walk-none : (p : Profile) (s d₀ : Text) (q₀ : Cursors) (t : List ℕ) (rows : List Bool) (d : Text) (w : Walk) (v : WalkGoing p s d₀ q₀ t rows d w) (at : ℕ) →
+    at ≡ w .progress .at → (r : HeadingAt) → NextHeading s at (w .progress .line) r → r .found ≡ false → WalkedFile p s d₀ d q₀ (w .cursors)
+walk-none p s d₀ q₀ t rows d w v at e r n f = walk-end p s d₀ q₀ t rows d _ (walk-on p s d₀ q₀ t rows d w v at e r n) (n .none f)

@@ -12,16 +12,17 @@ use Rattle.rules.specs.declared.SetHeading.{SetHeading}
 use Rattle.rules.specs.Headings.{Heading, upFrom}
 use Rattle.rules.specs.Sections.{Rule, applies}
 use Rattle.rules.specs.Faults.{Groups}
-use Rattle.resolver.specs.declared.Cursors.{Cursors}
-use Rattle.resolver.specs.declared.Range.{Range}
-use Rattle.resolver.specs.Matching.{members, isOptions}
-use Rattle.resolver.specs.Layouts.{layoutsOf, perLayout}
-use Rattle.resolver.specs.Firings.{Firing, setFires, headFires}
-use Rattle.resolver.specs.Ranges.{FromOne}
-use Rattle.resolver.specs.Running.{headingBy, rulesFrom, FiredRange, FiredHeading}
-use Rattle.resolver.proofs.Written.{run-cur-nil, run-buf-nil}
+use Rattle.firing.specs.declared.Cursors.{Cursors}
+use Rattle.matching.specs.declared.Range.{Range}
+use Rattle.answers.specs.Matching.{members, isOptions}
+use Rattle.answers.specs.Layouts.{layoutsOf, perLayout}
+use Rattle.answers.specs.Firings.{Firing, setFires, headFires}
+use Rattle.matching.specs.Ranges.{FromOne}
+use Rattle.matching.specs.Held.{headingBy}
+use Rattle.resolver.specs.Running.{rulesFrom, FiredRange, FiredHeading}
+use Rattle.firing.proofs.Written.{run-cur-nil, run-buf-nil}
 use Rattle.resolver.proofs.RangeLoops.{range-none}
-use Rattle.resolver.proofs.LayoutRange.{range-within, range-single}
+use Rattle.matching.proofs.LayoutRange.{range-within, range-single}
 
 module _ (x : Texts) (gs : Groups) (h : Heading) (ls : List Line) (n : ℕ) (z : n ≡ length (fields (x .layouts))) (r : Range)
     (e : upFrom (r .count) (r .first) ≡ layoutsOf n h) where

@@ -15,7 +15,7 @@ use Rattle.rules.specs.declared.Index.the-variants as index
 use Rattle.rules.specs.declared.Item.{Item}
 use Rattle.rules.specs.declared.Item.the-variants as item
 use Rattle.rules.specs.Headings.{upFrom, numberedIn, indexOf, leftItem, indexesIn, firstIndex}
-use Rattle.resolver.specs.Ranges.{FromOne}
+use Rattle.matching.specs.Ranges.{FromOne}
 
 unfoldable oneUp : Index → Bool
 oneUp index.Absent = true

@@ -10,7 +10,7 @@ use Rattle.rules.specs.Entries.{Entry, ignored, wrong, group, set, rule, entryO
 use Rattle.rules.specs.Sections.{Rule, bad, defines, applies, Section, Sections, addEntry, sections}
 use Rattle.rules.specs.Faults.{Group, Groups, withGroup}
 use Rattle.rules.proofs.Shifted.{sections-cons, sections-nil}
-use Rattle.resolver.specs.Firings.{Firing, headFires, firings, fileFirings}
+use Rattle.answers.specs.Firings.{Firing, headFires, firings, fileFirings}
 use Rattle.resolver.specs.Running.{rulesFrom, firingsFrom}
 
 -- the rules ahead of a line, up to the next heading

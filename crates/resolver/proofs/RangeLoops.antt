@@ -9,12 +9,12 @@ use Rattle.text.specs.Lines.{Line}
 use Rattle.profile.specs.Profile.{Profile}
 use Rattle.rules.specs.Headings.{Heading, upFrom}
 use Rattle.rules.specs.Faults.{Groups}
-use Rattle.resolver.specs.declared.Cursors.{Cursors}
-use Rattle.resolver.specs.Matching.{members}
-use Rattle.resolver.specs.Firings.{Firing, setFires}
-use Rattle.resolver.specs.Writing.{Low}
+use Rattle.firing.specs.declared.Cursors.{Cursors}
+use Rattle.answers.specs.Matching.{members}
+use Rattle.answers.specs.Firings.{Firing, setFires}
+use Rattle.firing.specs.Writing.{Low}
 use Rattle.resolver.specs.Running.{rulesFrom, FiredSet, FiredRange}
-use Rattle.resolver.proofs.Going.{Going, going-start, going-more, going-end}
+use Rattle.firing.proofs.Going.{Going, going-start, going-more, going-end}
 
 range-cons : (f : ℕ → List Firing) (j k : ℕ) → concatMap f (upFrom (suc j) k) ≡ f k ++ concatMap f (upFrom j (k + 1))
 unfolding concatMap upFrom

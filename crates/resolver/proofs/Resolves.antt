@@ -22,12 +22,12 @@ use Rattle.profile.proofs.Numbers.{profile-numbers}
 use Rattle.rules.specs.Faults.{lineFaults, fileRefusals}
 use Rattle.rules.proofs.Numbers.{file-numbers}
 use Rattle.values.specs.Filling.{Short}
-use Rattle.resolver.specs.declared.Outcome.{Outcome}
-use Rattle.resolver.specs.Firings.{fileFirings}
-use Rattle.resolver.specs.Answer.{textsFrom, tenTexts, sum, total, noRoom, refusals, Answer, refused, accepted, firstOf, answer, numberOf, placeOf, lengthsOf, outcome, bufferAfter, Answered}
-use Rattle.resolver.specs.Writing.{startingAt, runBuf, Low, starts}
-use Rattle.resolver.proofs.Answers.{neither, answered}
-use Rattle.resolver.proofs.Measured.{low-starts, written-by}
+use Rattle.answers.specs.declared.Outcome.{Outcome}
+use Rattle.answers.specs.Firings.{fileFirings}
+use Rattle.answers.specs.Answer.{textsFrom, tenTexts, sum, total, noRoom, refusals, Answer, refused, accepted, firstOf, answer, numberOf, placeOf, lengthsOf, outcome, bufferAfter, Answered}
+use Rattle.firing.specs.Writing.{startingAt, runBuf, Low, starts}
+use Rattle.answers.proofs.Answers.{neither, answered}
+use Rattle.firing.proofs.Measured.{low-starts, written-by}
 
 -- the first of some refusals
 

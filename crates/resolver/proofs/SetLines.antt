@@ -3,16 +3,17 @@ use Prim.Native.Nat.{ℕ, zero, suc, _+_, _≤_, _<_}
 use native.Mathlib.Omega.{arith}
 use mathlib.Core.Path.{_≡_, refl, sym, ap, _∙_}
 use mathlib.Core.List.{List, [], _∷_, map}
-use mathlib.Core.Bool.{Bool, true, false, _&&_, cond}
-use lib.ListN.{length}
+use mathlib.Core.Bool.{Bool, true, false, not, _&&_, cond}
+use lib.ListN.{length, length-append}
 use lib.Dec.{eqb, ltb}
 use borrow.Author.Tests.{ltb-true, ltb-false}
-use Rattle.text.specs.Bytes.{Text, Words, same, bytes, rest, allOf}
+use Rattle.text.specs.Bytes.{Text, Words, same, bytes, empty, rest, allOf, concatMap}
 use Rattle.text.specs.Words.{wordsFault}
-use Rattle.text.proofs.Lists.{no}
-use Rattle.rules.specs.declared.Index.the-variants as index
+use Rattle.text.proofs.Lists.{no, and-both}
+use Rattle.rules.specs.declared.Item.{Item}
+use Rattle.rules.specs.declared.Item.the-variants as item
 use Rattle.rules.specs.Words.{isEquals, hasDollar, isGroupName, ordinary}
-use Rattle.rules.specs.Headings.{Heading, leftItem, componentOf, headingOf, goodItems}
+use Rattle.rules.specs.Headings.{Heading, leftItem, componentOf, knownItem, columnsIn, headingOf, goodItems}
 use Rattle.rules.specs.Entries.{Entry, ignored, wrong, group, set, rule, before, after, setShape, setEntry, groupEntry, headingEntry, ruleEntry, entryOf}
 use Rattle.rules.specs.Checking.{lineOf}
 use Rattle.rules.proofs.Sides.{too-many}
@@ -61,17 +62,19 @@ none-grouped n (e ∷ ws) = go (isGroupName n && (isEquals e && allOf ordinary w
     go true = none-group (rest n) ws
     go false = none-wrong 6
 
-abbrev Good : Words → Heading → Type 0
-Good ws h = (goodItems (map leftItem (before ws)) (map componentOf (after ws)) ≡ true) × (h ≡ headingOf (map leftItem (before ws)) (map componentOf (after ws)))
+abbrev pub Good : Words → Heading → Type 0
+Good ws h =
+    (goodItems (map leftItem (before ws)) (map componentOf (after ws)) ≡ true) × (h ≡ headingOf (map leftItem (before ws)) (map componentOf (after ws)))
+    × (setShape ws ≡ true)
 
 by-set : (ws : Words) (h : Heading) → setEntry ws ≡ set h → Good ws h
 unfolding setEntry
-by-set ws h e = go (setShape ws) (goodItems (map leftItem (before ws)) (map componentOf (after ws))) refl e
+by-set ws h e = go (setShape ws) (goodItems (map leftItem (before ws)) (map componentOf (after ws))) refl refl e
   where
-    go : (a b : Bool) → goodItems (map leftItem (before ws)) (map componentOf (after ws)) ≡ b → cond a (cond b (set (headingOf (map leftItem (before ws)) (map componentOf (after ws)))) (wrong 7)) (wrong 6) ≡ set h → Good ws h
-    go true true z f = (z, heading-same _ h f)
-    go true false z f = absurd (no-set (wrong 7) h (none-wrong 7) f)
-    go false b z f = absurd (no-set (wrong 6) h (none-wrong 6) f)
+    go : (a b : Bool) → setShape ws ≡ a → goodItems (map leftItem (before ws)) (map componentOf (after ws)) ≡ b → cond a (cond b (set (headingOf (map leftItem (before ws)) (map componentOf (after ws)))) (wrong 7)) (wrong 6) ≡ set h → Good ws h
+    go true true y z f = (z, heading-same _ h f, y)
+    go true false y z f = absurd (no-set (wrong 7) h (none-wrong 7) f)
+    go false b y z f = absurd (no-set (wrong 6) h (none-wrong 6) f)
 
 by-heading : (ws : Words) (h : Heading) → headingEntry ws ≡ set h → Good ws h
 unfolding headingEntry
@@ -99,3 +102,36 @@ set-short n t ws h e = go (ltb 10 (length ws)) refl
     go : (b : Bool) → ltb 10 (length ws) ≡ b → length ws ≤ 10
     go true z = absurd (no (sym (too-many ws (ltb-true 10 (length ws) z)) ∙ set-good n t ws h e .1 .0))
     go false z = ltb-false 10 (length ws) z
+
+-- a heading has a column
+
+known-column : (i : Item) → knownItem i ≡ true → length (columnsIn i) ≡ 1
+unfolding knownItem columnsIn
+known-column item.Model h = refl
+known-column (item.Layout k) h = refl
+known-column (item.Variant k) h = refl
+known-column item.Options h = refl
+known-column item.Unknown h = absurd (no h)
+
+some-column : (is : List Item) → empty is ≡ false → allOf knownItem is ≡ true → 1 ≤ length (concatMap columnsIn is)
+unfolding concatMap allOf empty
+some-column [] e h = absurd (no (sym e))
+some-column (i ∷ is) e h =
+    let k = known-column i (and-both (knownItem i) (allOf knownItem is) h .0) in
+    omega (arith, k, length-append (columnsIn i) (concatMap columnsIn is))
+
+some-items : (ws : Words) → empty ws ≡ false → empty (map leftItem ws) ≡ false
+unfolding empty
+some-items [] e = e
+some-items (w ∷ ws) e = refl
+
+not-empty : (b : Bool) → not b ≡ true → b ≡ false
+not-empty true h = absurd (no h)
+not-empty false h = refl
+
+pub set-columns : (ws : Words) (h : Heading) → Good ws h → 1 ≤ length (headingOf (map leftItem (before ws)) (map componentOf (after ws)) .columns)
+unfolding goodItems headingOf setShape
+set-columns ws h g =
+    let n = and-both (not (empty (before ws))) _ (g .2) .0 in
+    let k = and-both (allOf knownItem (map leftItem (before ws))) _ (g .0) .0 in
+    some-column (map leftItem (before ws)) (some-items (before ws) (not-empty _ n)) k

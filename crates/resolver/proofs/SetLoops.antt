@@ -4,7 +4,10 @@ use native.Mathlib.Omega.{arith}
 use mathlib.Core.Path.{_≡_, refl, sym, ap, _∙_}
 use mathlib.Core.List.{List, [], _∷_, _++_, map, append-nil}
 use mathlib.Core.Bool.{Bool, true, false, cond}
-use lib.ListN.{length, take, drop, getD, drop-of-length-le}
+use lib.ListN.{length, take, drop, drop-of-length-le}
+use lib.Dec.{eqb}
+use borrow.Author.Tests.{eqb-true, eqb-false}
+use Rattle.text.proofs.Lists.{no}
 use Rattle.text.specs.declared.Place.the-variants.{Start}
 use Rattle.text.specs.Bytes.{Text, Words}
 use Rattle.text.specs.Marks.{marks}
@@ -16,21 +19,20 @@ use Rattle.profile.specs.Profile.{Profile, textsOf, profileOf}
 use Rattle.rules.specs.Headings.{Heading}
 use Rattle.rules.specs.Entries.{ignored, rule, entryOf}
 use Rattle.rules.specs.Faults.{Groups, rightWords}
-use Rattle.rules.specs.declared.Split.{Split}
 use Rattle.rules.specs.declared.SetHeading.{SetHeading}
-use Rattle.rules.specs.Splitting.{wordsOf, IsSplit}
 use Rattle.rules.specs.Checking.{lineOf, presentOf, checkFrom}
-use Rattle.rules.proofs.CheckSteps.{line-read, line-high, line-on, line-few}
 use Rattle.values.specs.Spread.{expanded}
 use Rattle.values.proofs.Profiles.{expanded-options}
-use Rattle.resolver.specs.declared.Cursors.{Cursors}
-use Rattle.resolver.specs.Matching.{members, columnMatches, ruleMatches}
-use Rattle.resolver.specs.Rows.{matchesAt}
-use Rattle.resolver.specs.Firings.{Firing, fired, ruleFires, setFires}
-use Rattle.resolver.specs.Writing.{Low, runBuf, runCur}
-use Rattle.resolver.specs.Running.{FiredRule, rulesFrom, columnBy, headingBy, SetSized, FiredSet}
-use Rattle.resolver.proofs.HeldHeadings.{columns-length, components-length, components-are, right-are, column-at, matches-by}
-use Rattle.resolver.proofs.Going.{Going, going-start, going-more, going-end}
+use Rattle.firing.specs.declared.Cursors.{Cursors}
+use Rattle.answers.specs.Matching.{members, ruleMatches}
+use Rattle.matching.specs.Left.{leftMatches}
+use Rattle.answers.specs.Firings.{Firing, fired, ruleFires, setFires}
+use Rattle.firing.specs.Writing.{Low, runBuf, runCur, FiredRule}
+use Rattle.matching.specs.Held.{headingBy, SetSized}
+use Rattle.resolver.specs.Running.{rulesFrom, FiredSet}
+use Rattle.matching.proofs.HeldHeadings.{columns-length, components-length, components-are, right-are}
+use Rattle.matching.proofs.LeftLoops.{rule-left, none-left}
+use Rattle.firing.proofs.Going.{Going, going-start, going-more, going-end}
 use Rattle.resolver.proofs.SetRuns.{CleanLine, clean-line, run-end, run-heading, run-ignored, run-miss, run-hit}
 
 -- a rule's values do not look at the options
@@ -94,6 +96,15 @@ module _ (s : Text) (p : Profile) (gs : Groups) (h : Heading) (every : Bool) (k 
               going = rw (run-miss every (members gs) p h k n ws (follow s at′ n′) (line-clean .rule-is z) e) at going-line;
             }
 
+        few-words : length (h .columns) ≤ length ws
+        few-words = omega (arith, line-clean .count z)
+
+        pub set-matches : leftMatches (members gs) p k (h .columns) ws ≡ true → ruleMatches (members gs) p k (h .columns) ws ≡ true
+        set-matches e = sym (rule-left (members gs) p k (h .columns) ws few-words) ∙ e
+
+        set-differs : leftMatches (members gs) p k (h .columns) ws ≡ false → SetGoing d q at′ n′
+        set-differs e = set-miss (sym (rule-left (members gs) p k (h .columns) ws few-words) ∙ e)
+
         module _ (e : ruleMatches (members gs) p k (h .columns) ws ≡ true) (d′ : Text) (q′ : Cursors)
             (f : FiredRule p d d′ q q′ k (h .components) (rightWords h ws)) where
           going-hit : Going d₀ q₀ (setFires every (members gs) p h k (rulesFrom ls₀)) d′ q′ (cond every (setFires every (members gs) p h k (rulesFrom (follow s at′ n′))) [])
@@ -113,6 +124,15 @@ module _ (s : Text) (p : Profile) (gs : Groups) (h : Heading) (every : Bool) (k 
           pub set-more : every ≡ true → SetGoing d′ q′ at′ n′
           set-more t = record { high = high′; few = few′; clean = line-clean .rest; going = rw (left-over t) at going-hit }
 
+  -- a line whose left words do not match: it has none, or it is a rule that does not
+  pub set-unmatched : (d : Text) (q : Cursors) (at n : ℕ) (v : SetGoing d q at n) (ws : Words) (at′ n′ : ℕ) → follow s at n ≡ lineOf n false ws ∷ follow s at′ n′ →
+      at′ ≤ length s → n′ ≤ at′ + 1 → leftMatches (members gs) p k (h .columns) ws ≡ false → SetGoing d q at′ n′
+  set-unmatched d q at n v ws at′ n′ read high few e = go (eqb (length ws) 0) refl
+    where
+      go : (t : Bool) → eqb (length ws) 0 ≡ t → SetGoing d q at′ n′
+      go true z = set-pass d q at n v ws at′ n′ read high few (eqb-true (length ws) 0 z)
+      go false z = set-differs d q at n v ws at′ n′ read high few (eqb-false (length ws) 0 z) e
+
 pub set-start : (s : Text) (p : Profile) (gs : Groups) (h : Heading) (every : Bool) (k : ℕ) (ns : List Text) (d : Text) (q : Cursors) (at n : ℕ) →
     at ≤ length s → n ≤ at + 1 → checkFrom ns (presentOf h) (follow s at n) ≡ [] → Low (q .at) → SetGoing s p gs h every k ns d q (follow s at n) d q at n
 set-start s p gs h every k ns d q at n a b c l = record { high = a; few = b; clean = c; going = going-start d q _ l }
@@ -125,31 +145,6 @@ rule-any m l v o d d′ q q′ k cs ws f =
       bytes = λ n. rw (rule-options m l v o n k cs ws) at (f .bytes n);
       places = λ n. rw (rule-options m l v o n k cs ws) at (f .places n);
     }
-
--- a line that is no heading, opened and split
-pub record RuleRead (s : Text) (at n at′ n′ : ℕ) (x : Text) : Type 0 where
-  pub read : follow s at n ≡ lineOf n false (wordsOf x) ∷ follow s at′ n′
-  pub high : at′ ≤ length s
-  pub few : n′ ≤ at′ + 1
-  pub on : at < at′
-
-pub rule-read : (s u : Text) (at n : ℕ) (h : Bool) (from m : ℕ) (x : Text) (r : Split) → x ≡ drop from s → at < length s → h ≡ false →
-    Opens s at n h from m → IsSplit false x u r → RuleRead s at n (from + r .next) (m + r .line) x
-rule-read s u at n h from m x r xe lt hf o v =
-    let o′ : Opens s at n false from m = rw hf at o in
-    let v′ : IsSplit false (drop from s) u r = rw xe at v in
-    record {
-      read = rw xe (line-read s u at n false from m r lt o′ v′);
-      high = line-high s u at n false from m r lt o′ v′;
-      few = line-few s u at n false from m r lt o′ v′;
-      on = line-on s u at n false from m r lt o′ v′;
-    }
-
--- a column of the code's heading
-pub column-told : (r : SetHeading) (w : SetSized r) (look : Text → Words) (p : Profile) (k c : ℕ) (ws : Words) (x : Text) (b : Bool) → c < r .left →
-    b ≡ matchesAt look p k (getD (r .columns) c 0) x → x ≡ getD ws c [] → columnMatches look p k (getD (headingBy r .columns) c (columnBy 0)) (getD ws c []) ≡ b
-column-told r w look p k c ws x b h e f =
-    rw (column-at r w c h, ← f) (sym (e ∙ matches-by look p k (getD (r .columns) c 0) x))
 
 fired-as : (p : Profile) (d d′ : Text) (q q′ : Cursors) (k : ℕ) (cs cs′ : List ℕ) (ws ws′ : Words) → cs ≡ cs′ → ws ≡ ws′ →
     FiredRule p d d′ q q′ k cs ws → FiredRule p d d′ q q′ k cs′ ws′

@@ -27,8 +27,8 @@ use Rattle.rules.specs.Checking.{lineOf, presentOf, presentFault, lineFault, pr
 use Rattle.rules.proofs.Fresh.{as-none}
 use Rattle.rules.proofs.CheckSteps.{check-cons}
 use Rattle.rules.proofs.LineChecks.{form-is}
-use Rattle.resolver.specs.Matching.{members, columnMatches, ruleMatches}
-use Rattle.resolver.specs.Firings.{Firing, ruleFires, setFires}
+use Rattle.answers.specs.Matching.{members, columnMatches, ruleMatches}
+use Rattle.answers.specs.Firings.{Firing, ruleFires, setFires}
 use Rattle.resolver.specs.Running.{rulesFrom}
 use Rattle.resolver.proofs.LineFirings.{nextRules, rules-line, rules-none}
 
@@ -88,7 +88,7 @@ entry-clean : (n : ℕ) (ws : Words) → wordsFault ws ≡ 0 → entryOf (lineOf
 unfolding entryOf
 entry-clean n ws e = rw (eq-eqb (wordsFault ws) 0 e)
 
-entry-faulty : (n : ℕ) (h : Bool) (ws : Words) → (wordsFault ws ≡ 0 → ⊥) → entryOf (lineOf n h ws) ≡ wrong (wordsFault ws)
+pub entry-faulty : (n : ℕ) (h : Bool) (ws : Words) → (wordsFault ws ≡ 0 → ⊥) → entryOf (lineOf n h ws) ≡ wrong (wordsFault ws)
 unfolding entryOf
 entry-faulty n h ws e = rw (ne-eqb (wordsFault ws) 0 e)
 
@@ -105,28 +105,43 @@ pub fault-rule : (ns : List Text) (p : Present) (ws : Words) → lineFault ns p 
 unfolding lineFault
 fault-rule ns p ws = refl
 
-pub clean-line : (ns : List Text) (h : Heading) (n : ℕ) (ws : Words) (ls : List Line) → checkFrom ns (presentOf h) (lineOf n false ws ∷ ls) ≡ [] →
-    CleanLine ns h n ws ls
-clean-line ns h n ws ls c =
-    let x = sym (check-cons ns (presentOf h) (lineOf n false ws) ls) ∙ c in
-    let z : lineFault ns (presentOf h) (entryOf (lineOf n false ws)) ≡ 0 = eqb-true _ 0 (as-none _ n (nil-left _ _ x)) in
+-- a line that is no heading, and is not refused under the present heading
+record Unrefused (ns : List Text) (h : Present) (n : ℕ) (ws : Words) (ls : List Line) : Type 0 where
+  pub fault : lineFault ns h (entryOf (lineOf n false ws)) ≡ 0
+  pub words : wordsFault ws ≡ 0
+  pub is : entryOf (lineOf n false ws) ≡ ruleEntry ws
+  pub rest : checkFrom ns h ls ≡ []
+
+unrefused : (ns : List Text) (h : Present) (n : ℕ) (ws : Words) (ls : List Line) → checkFrom ns h (lineOf n false ws ∷ ls) ≡ [] → Unrefused ns h n ws ls
+unrefused ns h n ws ls c =
+    let x = sym (check-cons ns h (lineOf n false ws) ls) ∙ c in
+    let z : lineFault ns h (entryOf (lineOf n false ws)) ≡ 0 = eqb-true _ 0 (as-none _ n (nil-left _ _ x)) in
     let f : wordsFault ws ≡ 0 = fault-zero z in
     let e = entry-clean n ws f in
-    let y = nil-right (refusedAs (lineFault ns (presentOf h) (entryOf (lineOf n false ws))) n) _ x in
-    record {
-      rest = rw (e, carry-rule ns (presentOf h) ws .0, carry-rule ns (presentOf h) ws .1) at y;
-      short = faultless ws f;
-      ignored-is = λ l. e ∙ no-words ws l;
-      rule-is = λ l. e ∙ some-words ws l;
-      count = λ l. rule-count h ws (sym (fault-rule ns (presentOf h) ws) ∙ (rw (e, some-words ws l) at z));
-    }
+    let y = nil-right (refusedAs (lineFault ns h (entryOf (lineOf n false ws))) n) _ x in
+    record { fault = z; words = f; is = e; rest = rw (e, carry-rule ns h ws .0, carry-rule ns h ws .1) at y }
   where
-    fault-zero : lineFault ns (presentOf h) (entryOf (lineOf n false ws)) ≡ 0 → wordsFault ws ≡ 0
+    fault-zero : lineFault ns h (entryOf (lineOf n false ws)) ≡ 0 → wordsFault ws ≡ 0
     fault-zero z = go (eqb (wordsFault ws) 0) refl
       where
         go : (t : Bool) → eqb (wordsFault ws) 0 ≡ t → wordsFault ws ≡ 0
         go true q = eqb-true _ 0 q
-        go false q = sym (fault-wrong ns (presentOf h) (wordsFault ws)) ∙ (rw (entry-faulty n false ws (eqb-false _ 0 q)) at z)
+        go false q = sym (fault-wrong ns h (wordsFault ws)) ∙ (rw (entry-faulty n false ws (eqb-false _ 0 q)) at z)
+
+pub clean-rest : (ns : List Text) (h : Present) (n : ℕ) (ws : Words) (ls : List Line) → checkFrom ns h (lineOf n false ws ∷ ls) ≡ [] → checkFrom ns h ls ≡ []
+clean-rest ns h n ws ls c = unrefused ns h n ws ls c .rest
+
+pub clean-line : (ns : List Text) (h : Heading) (n : ℕ) (ws : Words) (ls : List Line) → checkFrom ns (presentOf h) (lineOf n false ws ∷ ls) ≡ [] →
+    CleanLine ns h n ws ls
+clean-line ns h n ws ls c =
+    let u = unrefused ns (presentOf h) n ws ls c in
+    record {
+      rest = u .rest;
+      short = faultless ws (u .words);
+      ignored-is = λ l. u .is ∙ no-words ws l;
+      rule-is = λ l. u .is ∙ some-words ws l;
+      count = λ l. rule-count h ws (sym (fault-rule ns (presentOf h) ws) ∙ (rw (u .is, some-words ws l) at (u .fault)));
+    }
 
 -- a heading ends the rules
 
@@ -203,38 +218,3 @@ module _ (every : Bool) (look : Text → Words) (p : Profile) (h : Heading) (k :
         setFires every look p h k (rulesFrom (lineOf n false ws ∷ ls)) ≡
         ruleFires p n k (h .components) (rightWords h ws) ++ cond every (setFires every look p h k (rulesFrom ls)) []
     run-hit e m = run-rule e ∙ rw m
-
--- the left words of a rule, one column after the other
-
-pub record Matched (look : Text → Words) (p : Profile) (k : ℕ) (cs : List Column) (ws : Words) (c : ℕ) : Type 0 where
-  pub high : c ≤ length cs
-  pub rest : ruleMatches look p k cs ws ≡ ruleMatches look p k (drop c cs) (drop c ws)
-
-module _ (look : Text → Words) (p : Profile) (k : ℕ) (cs : List Column) (ws : Words) where
-  pub matched-start : Matched look p k cs ws 0
-  matched-start = record { high = omega arith; rest = refl }
-
-  matches-cons : (c : Column) (ds : List Column) (w : Text) (us : Words) → ruleMatches look p k (c ∷ ds) (w ∷ us) ≡ (columnMatches look p k c w && ruleMatches look p k ds us)
-  unfolding ruleMatches
-  matches-cons c ds w us = refl
-
-  matches-none : (us : Words) → ruleMatches look p k [] us ≡ true
-  unfolding ruleMatches
-  matches-none us = refl
-
-  module _ (c : ℕ) (v : Matched look p k cs ws c) where
-    pub matched-end : length cs ≤ c → ruleMatches look p k cs ws ≡ true
-    matched-end h = v .rest ∙ rw (drop-of-length-le cs h) (matches-none (drop c ws))
-
-    module _ (x : Column) (h : c < length cs) (l : c < length ws) where
-      step : ruleMatches look p k (drop c cs) (drop c ws) ≡ (columnMatches look p k (getD cs c x) (getD ws c []) && ruleMatches look p k (drop (c + 1) cs) (drop (c + 1) ws))
-      step =
-          let a : drop c cs ≡ getD cs c x ∷ drop (c + 1) cs = rw add-one (drop-cons cs c x h) in
-          let b : drop c ws ≡ getD ws c [] ∷ drop (c + 1) ws = rw add-one (drop-cons ws c [] l) in
-          rw (a, b) (matches-cons (getD cs c x) (drop (c + 1) cs) (getD ws c []) (drop (c + 1) ws))
-
-      pub matched-more : columnMatches look p k (getD cs c x) (getD ws c []) ≡ true → Matched look p k cs ws (c + 1)
-      matched-more e = record { high = omega arith; rest = v .rest ∙ (step ∙ rw e) }
-
-      pub matched-miss : columnMatches look p k (getD cs c x) (getD ws c []) ≡ false → ruleMatches look p k cs ws ≡ false
-      matched-miss e = v .rest ∙ (step ∙ rw e)

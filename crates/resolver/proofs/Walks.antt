@@ -1,4 +1,4 @@
--- One line of the walk over an accepted file.
+-- One heading of the walk over an accepted file.
 use Prim.Native.Nat.{ℕ, _+_, _≤_, _<_}
 use native.Mathlib.Omega.{arith}
 use mathlib.Core.Path.{_≡_, refl, sym, ap, _∙_}
@@ -20,44 +20,36 @@ use Rattle.rules.specs.declared.Progress.{Progress}
 use Rattle.rules.specs.declared.Split.{Split}
 use Rattle.rules.specs.declared.LineKind.{LineKind}
 use Rattle.rules.specs.declared.LineKind.the-variants as kind
-use Rattle.rules.specs.Entries.{Entry, ignored, wrong, group, set, rule, before, after, entryOf}
+use Rattle.rules.specs.Entries.{Entry, group, set, before, after, entryOf}
 use Rattle.rules.specs.declared.SetHeading.{SetHeading}
-use Rattle.rules.specs.Headings.{Heading, leftItem, componentOf, indexesIn, firstIndex, headingOf, goodItems}
+use Rattle.rules.specs.Headings.{Heading, leftItem, componentOf, indexesIn, firstIndex, headingOf}
 use Rattle.rules.specs.Sections.{applies}
 use Rattle.rules.specs.Sets.{Holds, IsSet}
 use Rattle.rules.specs.Faults.{Groups}
-use Rattle.rules.specs.Splitting.{wordsOf, Tallied, IsSplit}
-use Rattle.rules.specs.Checking.{lineOf, noHeading, lineFault, presentOf, presentFault, checkFrom, IsSetLine, IsKind, namesAt, Adds, Ready, leftFaults, Onward}
+use Rattle.rules.specs.Splitting.{wordsOf, IsSplit}
+use Rattle.rules.specs.Checking.{lineOf, noHeading, formOf, lineFault, presentOf, checkFrom, IsKind, namesAt, Adds, Ready, leftFaults, Onward}
 use Rattle.rules.proofs.Fresh.{as-none}
-use Rattle.rules.proofs.CheckSteps.{check-cons, entry-any, left-is, line-read, line-high, line-few, step-ignored, step-rule, step-set, step-group, zero-none, group-is, group-word, name-text}
-use Rattle.rules.proofs.Numbers.{goodEntry, entry-good}
+use Rattle.rules.proofs.CheckSteps.{check-cons, entry-any, left-is, line-read, line-high, line-few, step-set, step-group, group-is, group-word, name-text}
 use Rattle.rules.proofs.GroupNames.{names-length}
-use Rattle.resolver.specs.declared.Cursors.{Cursors}
+use Rattle.firing.specs.declared.Cursors.{Cursors}
 use Rattle.resolver.specs.declared.Walk.{Walk}
-use Rattle.resolver.specs.Firings.{Firing, headFires}
-use Rattle.resolver.specs.Writing.{Low, runBuf, runCur}
-use Rattle.resolver.specs.Groups.{groupsAt, Rowed, Noted}
-use Rattle.resolver.specs.Running.{headingBy, SetSized, rulesFrom, firingsFrom, leftFirings, FiredHeading, WalkedLine}
-use Rattle.resolver.specs.Ranges.{FromOne}
-use Rattle.resolver.proofs.Written.{buf-append, cur-append, length-run}
-use Rattle.resolver.proofs.Going.{low-run}
-use Rattle.resolver.proofs.HeldHeadings.{heading-held, sized-held}
+use Rattle.answers.specs.Firings.{Firing, headFires}
+use Rattle.firing.specs.Writing.{Low, runBuf, runCur}
+use Rattle.matching.specs.Groups.{groupsAt, Rowed, Noted}
+use Rattle.matching.specs.Held.{headingBy, SetSized}
+use Rattle.resolver.specs.Running.{rulesFrom, firingsFrom, leftFirings, FiredHeading, WalkedLine}
+use Rattle.matching.specs.Ranges.{FromOne}
+use Rattle.firing.proofs.Written.{buf-append, cur-append, length-run}
+use Rattle.firing.proofs.Going.{low-run}
+use Rattle.matching.proofs.HeldHeadings.{heading-held, sized-held}
 use Rattle.resolver.proofs.Indexed.{index-from-one}
-use Rattle.resolver.proofs.SetLines.{set-good, set-short}
-use Rattle.resolver.proofs.SetRuns.{fault-rule, fault-wrong}
+use Rattle.resolver.proofs.SetLines.{Good, set-good, set-short, set-columns}
+use Rattle.resolver.proofs.HeadingLines.{IsSetOf, HeadingIs, heading-is}
 use Rattle.resolver.proofs.LineFirings.{nextFirings, firings-line}
 
 fires-is : (p : Profile) (s : Text) (t : List ℕ) (w : Progress) → leftFirings p s t w ≡ firingsFrom (groupsAt s t (w .groups)) p (follow s (w .at) (w .line))
 unfolding leftFirings
 fires-is p s t w = refl
-
-next-ignored : (gs : Groups) (p : Profile) (ls : List Line) → nextFirings gs p ignored ls ≡ firingsFrom gs p ls
-unfolding nextFirings
-next-ignored gs p ls = refl
-
-next-rule : (gs : Groups) (p : Profile) (ws : Words) (ls : List Line) → nextFirings gs p (rule ws) ls ≡ firingsFrom gs p ls
-unfolding nextFirings
-next-rule gs p ws ls = refl
 
 next-group : (gs : Groups) (p : Profile) (g : Text) (ms : Words) (ls : List Line) → nextFirings gs p (group g ms) ls ≡ firingsFrom (record { name = g; members = ms } ∷ gs) p ls
 unfolding nextFirings
@@ -116,32 +108,16 @@ module _ (pr : Profile) (s t u : Text) (p : Progress) (q : Cursors) (d : Text) (
       (firings-line (groupsAt s t (p .groups)) pr (lineOf (p .line) h (wordsOf (drop from s))) lines-on ∙
       ap (λ (y : Entry). nextFirings (groupsAt s t (p .groups)) pr y lines-on) (entry-any (p .line) h (wordsOf (drop from s)) ∙ z))
 
-  abbrev passed : Progress
-  passed = record { at = from + r .next; line = m + r .line; groups = p .groups; present = p .present; fault = 0 }
-
-  pass : Onward s t t p passed → leftFirings pr s t p ≡ firingsFrom (groupsAt s t (p .groups)) pr lines-on →
-      WalkedLine pr s t t rows d d (record { progress = p; cursors = q }) (record { progress = passed; cursors = q })
-  pass n f =
-      let e : leftFirings pr s t p ≡ leftFirings pr s t (record { at = from + r .next; line = m + r .line; groups = p .groups; present = p .present; fault = 0 }) = f ∙ sym (fires-is pr s t _) in
-      record { onward = n; rowed = rd; low = lo; long = refl; bytes = ap (runBuf d q) e; places = ap (runCur q) e }
+  -- by its first word it is a group line, or a set's
+  pub heading-line : h ≡ true → HeadingIs (wordsOf x) (entryOf (lineOf 0 h (wordsOf x)))
+  heading-line e =
+      let f : lineFault (namesAt s t (p .groups)) (p .present) (entryOf (lineOf 0 true (wordsOf (drop from s)))) ≡ 0 =
+      rw (entry-any (p .line) h (wordsOf (drop from s)), e) at fault-none in
+      rw (xe, e) (heading-is (namesAt s t (p .groups)) (p .present) 0 (wordsOf (drop from s)) f)
 
   module _ (k : LineKind) (i₀ : IsKind (wordsOf x) (entryOf (lineOf 0 h (wordsOf x))) k) where
     i : IsKind (wordsOf (drop from s)) (entryOf (lineOf 0 h (wordsOf (drop from s)))) k
     i = rw xe at i₀
-
-    pub walk-ignored : k ≡ kind.Ignored → WalkedLine pr s t t rows d d (record { progress = p; cursors = q }) (record { progress = passed; cursors = q })
-    unfolding IsKind
-    walk-ignored e =
-        let z : entryOf (lineOf 0 h (wordsOf (drop from s))) ≡ ignored = rw e at i in
-        pass (step-ignored s t u p h from m x r xe lt o v w k i₀ e .right refl) (fires-line ignored z ∙ next-ignored _ pr lines-on)
-
-    pub walk-rule : k ≡ kind.Rule → WalkedLine pr s t t rows d d (record { progress = p; cursors = q }) (record { progress = passed; cursors = q })
-    unfolding IsKind
-    walk-rule e =
-        let z : entryOf (lineOf 0 h (wordsOf (drop from s))) ≡ rule (wordsOf (drop from s)) = rw e at i in
-        let f : presentFault (p .present) (wordsOf (drop from s)) ≡ 0 =
-        sym (fault-rule (namesAt s t (p .groups)) (p .present) (wordsOf (drop from s))) ∙ (rw (entry-any (p .line) h (wordsOf (drop from s)), z) at fault-none) in
-        pass (step-rule s t u p h from m x r xe lt o v w k i₀ 0 e (sym (rw (← xe) at f)) .right refl) (fires-line (rule (wordsOf (drop from s))) z ∙ next-rule _ pr (wordsOf (drop from s)) lines-on)
 
     module _ (e : k ≡ kind.Group) where
       entry : entryOf (lineOf 0 h (wordsOf (drop from s))) ≡ group (rest (getD (wordsOf (drop from s)) 0 [])) (drop 2 (wordsOf (drop from s)))
@@ -184,62 +160,70 @@ module _ (pr : Profile) (s t u : Text) (p : Progress) (q : Cursors) (d : Text) (
             places = ap (runCur q) f;
           }
 
-    module _ (g : Present) (e : k ≡ kind.Set g) where
-      set-is : IsSetLine (entryOf (lineOf 0 h (wordsOf (drop from s)))) g
-      unfolding IsKind
-      set-is = rw e at i
+  pub set-few : IsSetOf (entryOf (lineOf 0 h (wordsOf x))) → length (wordsOf x) ≤ 10
+  set-few v = set-short 0 h (wordsOf x) (v .heading) (v .is)
 
-      pub set-tally : Tallied (wordsOf x) (r .tally)
-      set-tally = v .tally (set-good 0 h (wordsOf (drop from s)) _ (set-is .is) .0)
+  module _ (y : IsSetOf (entryOf (lineOf 0 h (wordsOf x)))) (hd : SetHeading) (z₀ : IsSet (wordsOf x) hd) where
+    set-is : entryOf (lineOf 0 h (wordsOf (drop from s))) ≡ set (y .heading)
+    set-is = rw xe at (y .is)
 
-      pub set-few : length (wordsOf x) ≤ 10
-      set-few = rw xe (set-short 0 h (wordsOf (drop from s)) _ (set-is .is))
+    abbrev own : Heading
+    own = headingOf (map leftItem (before (wordsOf (drop from s)))) (map componentOf (after (wordsOf (drop from s))))
 
-      module _ (hd : SetHeading) (z₀ : IsSet (wordsOf x) hd) where
-        abbrev own : Heading
-        own = headingOf (map leftItem (before (wordsOf (drop from s)))) (map componentOf (after (wordsOf (drop from s))))
+    fine : Good (wordsOf (drop from s)) (y .heading)
+    fine = set-good 0 h (wordsOf (drop from s)) (y .heading) set-is .1
 
-        fine : (goodItems (map leftItem (before (wordsOf (drop from s)))) (map componentOf (after (wordsOf (drop from s)))) ≡ true) × (set-is .heading ≡ own)
-        fine = set-good 0 h (wordsOf (drop from s)) _ (set-is .is) .1
+    held : Holds own hd
+    held = let z : IsSet (wordsOf (drop from s)) hd = rw xe at z₀ in z .holds (z .good ∙ fine .0)
 
-        held : Holds own hd
-        held = let z : IsSet (wordsOf (drop from s)) hd = rw xe at z₀ in z .holds (z .good ∙ fine .0)
+    held-is : headingBy hd ≡ y .heading
+    held-is = heading-held own hd held ∙ sym (fine .1)
 
-        heading-is : headingBy hd ≡ set-is .heading
-        heading-is = heading-held own hd held ∙ sym (fine .1)
+    pub set-sized : SetSized hd
+    set-sized = sized-held own hd held (set-columns (wordsOf (drop from s)) _ fine)
 
-        pub set-sized : SetSized hd
-        set-sized = sized-held own hd held
+    pub set-from : FromOne (hd .index)
+    set-from = rw (held .index, index-is (before (wordsOf (drop from s))) (map componentOf (after (wordsOf (drop from s))))) (index-from-one (before (wordsOf (drop from s))))
 
-        pub set-from : FromOne (hd .index)
-        set-from = rw (held .index, index-is (before (wordsOf (drop from s))) (map componentOf (after (wordsOf (drop from s))))) (index-from-one (before (wordsOf (drop from s))))
+    -- the heading as it is carried on
+    pub set-present : (f : ℕ) → f ≡ formOf (hd .index) → record { form = f; left = hd .left; right = hd .right } ≡ presentOf (y .heading)
+    unfolding presentOf
+    set-present f e = rw (fine .1, e, held .index, held .left, held .right) refl
 
-        onward : Onward s t t p (record { at = from + r .next; line = m + r .line; groups = p .groups; present = g; fault = 0 })
-        onward = step-set s t u p h from m x r xe lt o v w k i₀ g e .right refl
+    of-kind : IsKind (wordsOf x) (entryOf (lineOf 0 h (wordsOf x))) (kind.Set (presentOf (y .heading)))
+    unfolding IsKind presentOf
+    of-kind =
+        record {
+          heading = y .heading;
+          is = y .is;
+          present = refl;
+          left = rw (fine .1) (omega (arith, held .left, held .fewLeft));
+          right = rw (fine .1) (omega (arith, held .right, held .fewRight));
+        }
 
-        pub set-clean : checkFrom (namesAt s t (p .groups)) (presentOf (headingBy hd)) (follow s (from + r .next) (m + r .line)) ≡ []
-        set-clean = rw (heading-is, ← set-is .present) (sym (left-is s t _) ∙ (sym (onward .faults) ∙ c))
+    module _ (g : Present) (ge : g ≡ presentOf (y .heading)) where
+      abbrev next : Progress
+      next = record { at = from + r .next; line = m + r .line; groups = p .groups; present = g; fault = 0 }
 
-        pub walk-set : (d′ : Text) (q′ : Cursors) → FiredHeading pr (groupsAt s t (p .groups)) (headingBy hd) d d′ q q′ (follow s (from + r .next) (m + r .line)) →
-            WalkedLine pr s t t rows d d′ (record { progress = p; cursors = q })
-            (record { progress = record { at = from + r .next; line = m + r .line; groups = p .groups; present = g; fault = 0 }; cursors = q′ })
-        walk-set d′ q′ f =
-            let a : leftFirings pr s t p ≡
-            headFires (groupsAt s t (p .groups)) pr (applies (headingBy hd)) (rulesFrom lines-on) ++
-            leftFirings pr s t (record { at = from + r .next; line = m + r .line; groups = p .groups; present = g; fault = 0 }) =
-            fires-line _ (set-is .is) ∙ (next-set (groupsAt s t (p .groups)) pr (set-is .heading) lines-on ∙ rw (heading-is, fires-is pr s t _)) in
-            record {
-              onward = onward;
-              rowed = rd;
-              low = rw (f .places) (low-run q _ lo);
-              long = rw (f .bytes) (length-run d q _);
-              bytes = rw (a, f .bytes, f .places) (buf-append d q _ _);
-              places = rw (a, f .places) (cur-append q _ _);
-            }
+      onward : Onward s t t p next
+      onward = rw ge (step-set s t u p h from m x r xe lt o v w (kind.Set (presentOf (y .heading))) of-kind (presentOf (y .heading)) refl .right refl)
 
-    pub walk-wrong : (n : ℕ) → k ≡ kind.Wrong n → ⊥
-    unfolding IsKind goodEntry
-    walk-wrong n e =
-        let y : entryOf (lineOf 0 h (wordsOf (drop from s))) ≡ wrong n = rw e at i in
-        let b : n ≡ 0 = sym (fault-wrong (namesAt s t (p .groups)) (p .present) n) ∙ (rw (entry-any (p .line) h (wordsOf (drop from s)), y) at fault-none) in
-        zero-none n b (rw y at (entry-good (lineOf 0 h (wordsOf (drop from s)))))
+      clean-on : checkFrom (namesAt s t (p .groups)) g (follow s (from + r .next) (m + r .line)) ≡ []
+      clean-on = sym (left-is s t next) ∙ (sym (onward .faults) ∙ c)
+
+      pub set-clean : checkFrom (namesAt s t (p .groups)) (presentOf (headingBy hd)) (follow s (from + r .next) (m + r .line)) ≡ []
+      set-clean = rw (held-is, ← ge) clean-on
+
+      pub walk-set : (d′ : Text) (q′ : Cursors) → FiredHeading pr (groupsAt s t (p .groups)) (headingBy hd) d d′ q q′ (follow s (from + r .next) (m + r .line)) →
+          WalkedLine pr s t t rows d d′ (record { progress = p; cursors = q }) (record { progress = next; cursors = q′ })
+      walk-set d′ q′ f =
+          let a : leftFirings pr s t p ≡ headFires (groupsAt s t (p .groups)) pr (applies (headingBy hd)) (rulesFrom lines-on) ++ leftFirings pr s t next =
+          fires-line _ set-is ∙ (next-set (groupsAt s t (p .groups)) pr (y .heading) lines-on ∙ rw (held-is, fires-is pr s t next)) in
+          record {
+            onward = onward;
+            rowed = rd;
+            low = rw (f .places) (low-run q _ lo);
+            long = rw (f .bytes) (length-run d q _);
+            bytes = rw (a, f .bytes, f .places) (buf-append d q _ _);
+            places = rw (a, f .places) (cur-append q _ _);
+          }

@@ -1,11 +1,1 @@
-pub mod Matching
-pub mod Layouts
-pub mod Firings
-pub mod Components
-pub mod Answer
-pub mod Joined
-pub mod Writing
-pub mod Groups
 pub mod Running
-pub mod Rows
-pub mod Ranges

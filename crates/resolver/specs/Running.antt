@@ -1,38 +1,27 @@
 -- What the walk over a file promises at each level: it fires the values that the definition lists.
-use Prim.Native.Nat.{ℕ, _≤_}
+use Prim.Native.Nat.{ℕ, _+_, _≤_, _<_}
 use mathlib.Core.Path.{_≡_}
-use mathlib.Core.List.{List, map}
-use mathlib.Core.Bool.{Bool, false, cond}
-use lib.ListN.{length, take}
-use lib.Dec.{eqb}
-use Rattle.text.specs.Bytes.{Text, Words, anyOf, concatMap}
+use mathlib.Core.List.{List, []}
+use mathlib.Core.Bool.{Bool, true, false}
+use lib.ListN.{length}
+use Rattle.text.specs.Bytes.{Text, concatMap}
 use Rattle.text.specs.Lines.{Line}
-use Rattle.text.specs.Words.{tooLong}
-use Rattle.text.specs.Reading.{follow}
+use Rattle.text.specs.Reading.{left, follow, Passed, Opens}
 use Rattle.profile.specs.Profile.{Profile}
-use Rattle.rules.specs.declared.Column.{Column}
-use Rattle.rules.specs.declared.Column.the-variants as column
-use Rattle.rules.specs.declared.SetHeading.{SetHeading}
 use Rattle.rules.specs.declared.Progress.{Progress}
 use Rattle.rules.specs.Headings.{Heading, upFrom}
 use Rattle.rules.specs.Sections.{Rule, applies, sections}
-use Rattle.rules.specs.Faults.{Groups}
-use Rattle.rules.specs.Checking.{Onward}
-use Rattle.resolver.specs.declared.Cursors.{Cursors}
+use Rattle.rules.specs.Faults.{Groups, rightWords}
+use Rattle.rules.specs.declared.Present.{Present}
+use Rattle.rules.specs.Checking.{checkFrom, Onward}
+use Rattle.firing.specs.declared.Cursors.{Cursors}
 use Rattle.resolver.specs.declared.Walk.{Walk}
-use Rattle.resolver.specs.Matching.{members}
-use Rattle.resolver.specs.Firings.{Firing, ruleFires, setFires, headFires, firings, fileFirings}
-use Rattle.resolver.specs.Writing.{Low, startingAt, runBuf, runCur}
-use Rattle.resolver.specs.Groups.{groupsAt, Rowed}
-
--- no word is too long
-abbrev pub ShortWords : Words → Type 0
-ShortWords ws = anyOf tooLong ws ≡ false
-
--- the right words ws fired for the components cs at the layout k, whatever line they stand in
-pub record FiredRule (p : Profile) (d d′ : Text) (q q′ : Cursors) (k : ℕ) (cs : List ℕ) (ws : Words) : Type 0 where
-  pub bytes : (l : ℕ) → d′ ≡ runBuf d q (ruleFires p l k cs ws)
-  pub places : (l : ℕ) → q′ ≡ runCur q (ruleFires p l k cs ws)
+use Rattle.resolver.specs.declared.FiredLine.{FiredLine}
+use Rattle.resolver.specs.declared.HeadingAt.{HeadingAt}
+use Rattle.answers.specs.Matching.{members}
+use Rattle.answers.specs.Firings.{Firing, setFires, headFires, firings, fileFirings}
+use Rattle.firing.specs.Writing.{Low, FiredRule, startingAt, runBuf, runCur}
+use Rattle.matching.specs.Groups.{groupsAt, Rowed}
 
 -- the rules from a line on, up to the next heading; and what fires from a line on
 unfoldable pub rulesFrom : List Line → List Rule
@@ -41,24 +30,10 @@ rulesFrom ls = sections ls .0
 unfoldable pub firingsFrom : Groups → Profile → List Line → List Firing
 firingsFrom gs p ls = firings gs p (sections ls .1)
 
--- A heading that the check accepted, by its numbers.
-unfoldable pub columnBy : ℕ → Column
-columnBy c = cond (eqb c 1) column.Model (cond (eqb c 2) column.Layout (cond (eqb c 3) column.Variant column.Options))
-
-unfoldable pub headingBy : SetHeading → Heading
-headingBy r = record { columns = map columnBy (take (r .left) (r .columns)); index = r .index; components = take (r .right) (r .components) }
-
 -- the rules of a set from a line on, run at the layout k; the flag: every matching rule fires
 pub record FiredSet (p : Profile) (gs : Groups) (h : Heading) (every : Bool) (d d′ : Text) (q q′ : Cursors) (k : ℕ) (ls : List Line) : Type 0 where
   pub bytes : d′ ≡ runBuf d q (setFires every (members gs) p h k (rulesFrom ls))
   pub places : q′ ≡ runCur q (setFires every (members gs) p h k (rulesFrom ls))
-
--- a heading has room for its numbers
-pub record SetSized (h : SetHeading) : Type 0 where
-  pub left : h .left ≤ 4
-  pub right : h .right ≤ 5
-  pub columns : length (h .columns) ≡ 5
-  pub components : length (h .components) ≡ 5
 
 -- a set run at the layouts k to k + j - 1
 pub record FiredRange (p : Profile) (gs : Groups) (h : Heading) (every : Bool) (d d′ : Text) (q q′ : Cursors) (j k : ℕ) (ls : List Line) : Type 0 where
@@ -92,3 +67,19 @@ pub record WalkedFile (p : Profile) (s d d′ : Text) (q q′ : Cursors) : Type 
 pub record FiredFile (p : Profile) (s d d′ : Text) (at at′ : List ℕ) : Type 0 where
   pub bytes : d′ ≡ runBuf d (startingAt at) (fileFirings s p)
   pub places : at′ ≡ runCur (startingAt at) (fileFirings s p) .at
+
+-- a rule's line from `from` on, in the physical line n, fired at the layout k; the next line is where the line ends
+pub record FiredLineOf (p : Profile) (h : Heading) (s : Text) (from n : ℕ) (d d′ : Text) (q : Cursors) (k : ℕ) (r : FiredLine) : Type 0 where
+  pub fired : FiredRule p d d′ q (r .cursors) k (h .components) (rightWords h (left s from))
+  pub passed : Passed s from n (r .at) (r .line)
+
+-- The next heading from the line at `at` on, which has the number n: what fires and what is refused before it, for whatever groups and heading so far, is
+-- nothing; or there is none.
+pub record NextHeading (s : Text) (at n : ℕ) (r : HeadingAt) : Type 0 where
+  pub low : at ≤ r .start
+  pub high : r .start ≤ length s
+  pub few : r .number ≤ r .start + 1
+  pub fires : (gs : Groups) (p : Profile) → firingsFrom gs p (follow s at n) ≡ firingsFrom gs p (follow s (r .start) (r .number))
+  pub clean : (ns : List Text) (h : Present) → checkFrom ns h (follow s at n) ≡ [] → checkFrom ns h (follow s (r .start) (r .number)) ≡ []
+  pub opens : r .found ≡ true → (r .start < length s) × Opens s (r .start) (r .number) true (r .at) (r .line)
+  pub none : r .found ≡ false → length s ≤ r .start

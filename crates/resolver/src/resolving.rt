@@ -7,13 +7,13 @@ ghost use Rattle.output.specs.Store.{farthest};
 ghost use Rattle.profile.specs.Profile.{textsOf, profileOf};
 ghost use Rattle.profile.specs.Refusals.{profileRefusals};
 ghost use Rattle.rules.specs.Faults.{lineFaults};
-ghost use Rattle.resolver.specs.Answer.{answer, refused as refusedAt, bufferAfter, outcome, noRoom};
-ghost use Rattle.resolver.specs.Writing.{Low};
+ghost use Rattle.answers.specs.Answer.{answer, refused as refusedAt, outcome, noRoom, Resolved};
+ghost use Rattle.firing.specs.Writing.{Low};
 ghost use Rattle.resolver.specs.Running.{FiredFile};
-use super::Cursors;
-use super::Outcome;
 use super::walking::walk;
-use super::writing::places;
+use answers::Outcome;
+use firing::Cursors;
+use firing::writing::places;
 use profile::fields::field_count;
 use profile::table::list_options;
 use rules::check::check_file;
@@ -137,10 +137,8 @@ pub fn resolve(
     options: &[u8],
     buf: &mut [u8],
 ) -> Outcome
-    ensures { λ r. ⌜ (r ≡ outcome (answer (length (now (buf .entry))) (now (s .entry))
-        (textsOf (now (model .entry)) (now (layouts .entry)) (now (variants .entry)) (now (options .entry)))))
-        × (now (buf .exit) ≡ bufferAfter (now (buf .entry)) (answer (length (now (buf .entry))) (now (s .entry))
-        (textsOf (now (model .entry)) (now (layouts .entry)) (now (variants .entry)) (now (options .entry))))) ⌝ }
+    ensures { λ r. ⌜ Resolved (now (s .entry)) (textsOf (now (model .entry)) (now (layouts .entry)) (now (variants .entry)) (now (options .entry)))
+        (now (buf .entry)) (now (buf .exit)) r ⌝ }
 {
     let a = measure(s, model, layouts, variants, options, buf.len());
     if a.number != 0 {

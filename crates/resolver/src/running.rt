@@ -6,27 +6,79 @@ ghost use Prim.Native.Nat.{_+_, _≤_, _<_};
 ghost use lib.ListN.{length};
 ghost use Rattle.text.specs.Limits.{mostOptions};
 ghost use Rattle.text.specs.Bytes.{anyOf};
-ghost use Rattle.text.specs.Reading.{Table, Fenced, follow};
+ghost use Rattle.text.specs.Reading.{Table, Fenced, Within, left, follow};
 ghost use Rattle.output.specs.Store.{farthest};
 ghost use Rattle.profile.specs.Profile.{fields, optionsOf, textsOf, profileOf};
 ghost use Rattle.profile.specs.Listing.{Listed};
 ghost use Rattle.rules.specs.Checking.{Named, presentOf, checkFrom, namesAt};
 ghost use Rattle.values.specs.Filling.{Short};
-ghost use Rattle.resolver.specs.Groups.{groupsAt, Rowed};
-ghost use Rattle.resolver.specs.Layouts.{perLayout};
-ghost use Rattle.resolver.specs.Writing.{Low};
-ghost use Rattle.resolver.specs.Running.{headingBy, SetSized, FiredSet, FiredRange, FiredHeading};
-ghost use Rattle.resolver.specs.Ranges.{FromOne};
-use super::Cursors;
-use super::firing::fire_rule;
-use super::matching::column_matches;
-use super::ranges::has_options;
-use super::ranges::layout_range;
+ghost use Rattle.matching.specs.Groups.{groupsAt, Rowed};
+ghost use Rattle.answers.specs.Layouts.{perLayout};
+ghost use Rattle.firing.specs.Writing.{Low, ShortWords};
+ghost use Rattle.matching.specs.Held.{headingBy, SetSized};
+ghost use Rattle.resolver.specs.Running.{FiredLineOf, FiredSet, FiredRange, FiredHeading};
+ghost use Rattle.matching.specs.Ranges.{FromOne};
+use super::FiredLine;
+use firing::Cursors;
+use firing::rule::fire_rule;
+use matching::columns::left_word;
+use matching::ranges::has_options;
+use matching::ranges::layout_range;
 use rules::SetHeading;
 use rules::check::fence_behind;
 use rules::lines::split_line;
-use rules::sets::word;
 use text::reader::open_line;
+use text::reader::pass_line;
+
+// A rule whose left words match, its line from `from` on: its right words fire at the layout k.
+fn fire_line(
+    s: &[u8],
+    t: &[u8; 512],
+    fence: usize,
+    places: &mut [usize],
+    from: usize,
+    line: usize,
+    h: SetHeading,
+    model: &[u8],
+    layouts: &[u8],
+    variants: &[u8],
+    n: usize,
+    k: usize,
+    scratch: &mut [u8],
+    buf: &mut [u8],
+    q: Cursors,
+) -> FiredLine
+    requires { ⌜ Within (now s) (now t) fence from line × (length (now places) ≡ 20) × SetSized h
+        × (length (left (now s) from) ≡ h .left + 1 + h .right) × ShortWords (left (now s) from)
+        × (n ≡ length (fields (now layouts))) × (1 ≤ n) × (n < 100) × (k < 100) × Short (now model) (now layouts) (now variants)
+        × (8192 ≤ length (now scratch)) × (length (now scratch) ≤ farthest) × (length (now buf) ≤ farthest) × Low (q .at) ⌝ }
+    ensures { λ r. ⌜ FiredLineOf (profileOf (textsOf (now (model .entry)) (now (layouts .entry)) (now (variants .entry)) [])) (headingBy h)
+        (now (s .entry)) from line (now (buf .entry)) (now (buf .exit)) q k r ⌝ }
+{
+    let components = h.components;
+    let w = &s[from..];
+    let l = split_line(false, w, t, fence_behind(fence, from), places);
+    let cursors = fire_rule(
+        w,
+        places,
+        h.left + 1,
+        l.tally.count,
+        components,
+        model,
+        layouts,
+        variants,
+        n,
+        k,
+        scratch,
+        buf,
+        q,
+    );
+    FiredLine {
+        at: from + l.next,
+        line: line + l.line,
+        cursors,
+    }
+}
 
 // The rules of a set from a line on, at the layout k: the first that matches fires, or every one where the set has an option column.
 pub fn run_set(
@@ -64,8 +116,8 @@ pub fn run_set(
     ensures { λ r. ⌜ FiredSet (profileOf (textsOf (now (model .entry)) (now (layouts .entry)) (now (variants .entry)) (now (options .entry))))
         (groupsAt (now (s .entry)) (now (names .entry)) groups) (headingBy h) every (now (buf .entry)) (now (buf .exit)) q r k (follow (now (s .entry)) start number) ⌝ }
 {
+    let columns = h.columns;
     let left = h.left;
-    let components = h.components;
     let mut m = q;
     let mut at = start;
     let mut line = number;
@@ -74,23 +126,18 @@ pub fn run_set(
         if o.heading {
             break 'rules;
         }
-        let from = o.at;
-        let w = &s[from..];
-        let l = split_line(false, w, t, fence_behind(fence, from), places);
-        at = from + l.next;
-        line = o.line + l.line;
-        let words = l.tally.count;
-        if words == 0 {
-            continue 'rules;
-        }
+        let mut i = o.at;
+        let mut l = o.line;
         let mut c: usize = 0;
         while c < left {
-            let x = word(w, places, c);
-            if !column_matches(
-                h.columns[c],
-                x,
-                k,
+            let x = left_word(
                 s,
+                t,
+                fence,
+                i,
+                l,
+                columns[c],
+                k,
                 names,
                 rows,
                 groups,
@@ -100,17 +147,25 @@ pub fn run_set(
                 options,
                 table,
                 listed,
-            ) {
+            );
+            if !x.matched {
+                let e = pass_line(s, t, fence, x.at, x.line);
+                at = e.at;
+                line = e.line;
                 continue 'rules;
             }
+            i = x.at;
+            l = x.line;
             c += 1;
         }
-        m = fire_rule(
-            w,
+        let f = fire_line(
+            s,
+            t,
+            fence,
             places,
-            left + 1,
-            words,
-            components,
+            o.at,
+            o.line,
+            h,
             model,
             layouts,
             variants,
@@ -120,6 +175,9 @@ pub fn run_set(
             buf,
             m,
         );
+        m = f.cursors;
+        at = f.at;
+        line = f.line;
         if !every {
             break 'rules;
         }

@@ -1,34 +1,69 @@
-// The walk over an accepted file: groups are noted, sets are run.
+// The walk over an accepted file, from heading to heading: groups are noted, sets are run.
 ghost use mathlib.Core.Path.{_≡_};
+ghost use mathlib.Core.Bool.{true};
 ghost use mathlib.Core.List.{[]};
 ghost use Prim.Native.Nat.{_≤_, _<_};
 ghost use lib.ListN.{length};
 ghost use Rattle.text.specs.Limits.{mostOptions};
-ghost use Rattle.text.specs.Reading.{Table, Fenced};
+ghost use Rattle.text.specs.Reading.{Table, Fenced, Within, Opens};
 ghost use Rattle.output.specs.Store.{farthest};
 ghost use Rattle.profile.specs.Profile.{fields, optionsOf, textsOf, profileOf};
 ghost use Rattle.profile.specs.Listing.{Listed};
 ghost use Rattle.rules.specs.Faults.{lineFaults};
 ghost use Rattle.rules.specs.Checking.{Ready, leftFaults};
 ghost use Rattle.values.specs.Filling.{Short};
-ghost use Rattle.resolver.specs.Groups.{Rowed};
-ghost use Rattle.resolver.specs.Writing.{Low};
-ghost use Rattle.resolver.specs.Running.{WalkedLine, WalkedFile};
-use super::Cursors;
+ghost use Rattle.matching.specs.Groups.{Rowed};
+ghost use Rattle.firing.specs.Writing.{Low};
+ghost use Rattle.resolver.specs.Running.{NextHeading, WalkedLine, WalkedFile};
+use super::HeadingAt;
 use super::Walk;
-use super::groups::note_group;
 use super::running::run_heading;
-use rules::LineKind;
+use firing::Cursors;
+use matching::groups::note_group;
 use rules::Present;
 use rules::Progress;
 use rules::check::fence_behind;
-use rules::judge::line_kind;
+use rules::judge::form_of;
 use rules::lines::split_line;
 use rules::sets::read_set;
+use rules::sets::word;
+use rules::words::has_dollar;
 use text::reader::open_line;
+use text::reader::pass_line;
 
-// One line: a group is noted, a set is run, any other line is passed.
-pub fn walk_line(
+// The next heading from a line on. Lines before it are passed over: they fire nothing by themselves.
+fn next_heading(s: &[u8], t: &[u8; 512], fence: usize, at: usize, line: usize) -> HeadingAt
+    requires { ⌜ Within (now s) (now t) fence at line ⌝ }
+    ensures { λ r. ⌜ NextHeading (now (s .entry)) at line r ⌝ }
+{
+    let mut i = at;
+    let mut l = line;
+    while i < s.len() {
+        let o = open_line(s, t, i, l);
+        if o.heading {
+            return HeadingAt {
+                found: true,
+                start: i,
+                number: l,
+                at: o.at,
+                line: o.line,
+            };
+        }
+        let e = pass_line(s, t, fence, o.at, o.line);
+        i = e.at;
+        l = e.line;
+    }
+    HeadingAt {
+        found: false,
+        start: i,
+        number: l,
+        at: i,
+        line: l,
+    }
+}
+
+// A heading, whose words begin at `from`: a group is noted, a set is run.
+fn walk_heading(
     s: &[u8],
     t: &[u8; 512],
     fence: usize,
@@ -44,6 +79,8 @@ pub fn walk_line(
     n: usize,
     scratch: &mut [u8],
     buf: &mut [u8],
+    from: usize,
+    number: usize,
     w: Walk,
 ) -> Walk
     requires { ⌜ Table (now t) × Fenced (now s) fence × (length (now places) ≡ 20) × Ready (now s) (now names) (w .progress)
@@ -52,112 +89,89 @@ pub fn walk_line(
         × (n ≡ length (fields (now layouts))) × (1 ≤ n) × (n ≤ 4)
         × Short (now model) (now layouts) (now variants)
         × (8192 ≤ length (now scratch)) × (length (now scratch) ≤ farthest) × (length (now buf) ≤ farthest) × Low (w .cursors .at)
-        × (w .progress .at < length (now s)) × (leftFaults (now s) (now names) (w .progress) ≡ []) ⌝ }
+        × (w .progress .at < length (now s)) × (leftFaults (now s) (now names) (w .progress) ≡ [])
+        × Opens (now s) (w .progress .at) (w .progress .line) true from number ⌝ }
     ensures { λ r. ⌜ WalkedLine (profileOf (textsOf (now (model .entry)) (now (layouts .entry)) (now (variants .entry)) (now (options .entry))))
-        (now (s .entry)) (now (names .entry)) (now (names .exit)) (now (rows .exit)) (now (buf .entry)) (now (buf .exit)) w r
-        × (length (now (places .exit)) ≡ 20) × (length (now (scratch .exit)) ≡ length (now (scratch .entry))) ⌝ }
+        (now (s .entry)) (now (names .entry)) (now (names .exit)) (now (rows .exit)) (now (buf .entry)) (now (buf .exit)) w r ⌝ }
 {
     let p = w.progress;
-    let q = w.cursors;
     let groups = p.groups;
-    let present = p.present;
-    let o = open_line(s, t, p.at, p.line);
-    let from = o.at;
     let x = &s[from..];
-    let l = split_line(o.heading, x, t, fence_behind(fence, from), places);
+    let l = split_line(true, x, t, fence_behind(fence, from), places);
     let at = from + l.next;
-    let line = o.line + l.line;
-    match line_kind(o.heading, x, places, l) {
-        LineKind::Group => {
-            let name = from + places[0] + 1;
-            let end = from + places[1];
-            note_group(
-                s,
-                t,
-                fence,
-                name,
-                end,
-                names,
-                model,
-                layouts,
-                variants,
-                options,
-                table,
-                listed,
-                rows,
-                groups,
-            );
-            Walk {
-                progress: Progress {
-                    at,
-                    line,
-                    groups: groups + 1,
-                    present: Present {
-                        form: 0,
-                        left: 0,
-                        right: 0,
-                    },
-                    fault: 0,
-                },
-                cursors: q,
-            }
-        }
-        LineKind::Set(heading) => {
-            let h = read_set(x, places, l.tally.first, l.tally.count);
-            let cursors = run_heading(
-                s,
-                t,
-                fence,
-                places,
-                names,
-                rows,
-                groups,
-                h,
-                model,
-                layouts,
-                variants,
-                options,
-                table,
-                listed,
-                n,
-                at,
-                line,
-                scratch,
-                buf,
-                q,
-            );
-            Walk {
-                progress: Progress {
-                    at,
-                    line,
-                    groups,
-                    present: heading,
-                    fault: 0,
-                },
-                cursors,
-            }
-        }
-        LineKind::Ignored => Walk {
+    let line = number + l.line;
+    if has_dollar(word(x, places, 0)) {
+        let name = from + places[0] + 1;
+        let end = from + places[1];
+        note_group(
+            s,
+            t,
+            fence,
+            name,
+            end,
+            names,
+            model,
+            layouts,
+            variants,
+            options,
+            table,
+            listed,
+            rows,
+            groups,
+        );
+        let cursors = w.cursors;
+        return Walk {
             progress: Progress {
                 at,
                 line,
-                groups,
-                present,
+                groups: groups + 1,
+                present: Present {
+                    form: 0,
+                    left: 0,
+                    right: 0,
+                },
                 fault: 0,
             },
-            cursors: q,
-        },
-        LineKind::Wrong(_) => w,
-        LineKind::Rule => Walk {
-            progress: Progress {
-                at,
-                line,
-                groups,
-                present,
-                fault: 0,
+            cursors,
+        };
+    }
+    let h = read_set(x, places, l.tally.first, l.tally.count);
+    let cursors = run_heading(
+        s,
+        t,
+        fence,
+        places,
+        names,
+        rows,
+        groups,
+        h,
+        model,
+        layouts,
+        variants,
+        options,
+        table,
+        listed,
+        n,
+        at,
+        line,
+        scratch,
+        buf,
+        w.cursors,
+    );
+    let index = h.index;
+    Walk {
+        progress: Progress {
+            at,
+            line,
+            groups,
+            present: Present {
+                form: form_of(index),
+                left: h.left,
+                right: h.right,
             },
-            cursors: q,
+            fault: 0,
         },
+        cursors,
     }
 }
 
@@ -205,7 +219,14 @@ pub fn walk(
         cursors: q,
     };
     while at < s.len() {
-        w = walk_line(
+        let p = w.progress;
+        let o = next_heading(s, t, fence, at, p.line);
+        if !o.found {
+            return w.cursors;
+        }
+        let present = p.present;
+        let cursors = w.cursors;
+        w = walk_heading(
             s,
             t,
             fence,
@@ -221,10 +242,21 @@ pub fn walk(
             n,
             scratch,
             buf,
-            w,
+            o.at,
+            o.line,
+            Walk {
+                progress: Progress {
+                    at: o.start,
+                    line: o.number,
+                    groups: p.groups,
+                    present,
+                    fault: 0,
+                },
+                cursors,
+            },
         );
-        let p = w.progress;
-        at = p.at;
+        let r = w.progress;
+        at = r.at;
     }
     w.cursors
 }

@@ -113,7 +113,8 @@ fn group_kind(w: &[u8], places: &[usize], t: Tally) -> LineKind
     LineKind::Group
 }
 
-fn form_of(i: Index) -> usize
+// What a heading's index asks of its rules: 2 with one of the four index words, else 1.
+pub fn form_of(i: Index) -> usize
     ensures { λ r. ⌜ r ≡ formOf i ⌝ }
 {
     if has_word(i) {

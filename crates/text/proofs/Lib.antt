@@ -7,3 +7,4 @@ pub mod ByteKinds
 pub mod Readers
 pub mod Entries
 pub mod Pairs
+pub mod Passing

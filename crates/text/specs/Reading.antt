@@ -136,6 +136,19 @@ pub record NoWord (s : List ℕ) (at n p m : ℕ) : Type 0 where
   pub none : left s at ≡ []
   pub onto : ahead s at n ≡ follow s p m
 
+-- the first LF from `from` on stands at r
+pub record FirstFeed (s : List ℕ) (from r : ℕ) : Type 0 where
+  pub low : from ≤ r
+  pub feed : getD s r 0 ≡ 10
+  pub before : (j : ℕ) → from ≤ j → j < r → getD s j 0 ≡ 10 → ⊥
+
+-- The rest of a line is passed over, from a place where a word would begin: the next line starts at p and has the number m.
+pub record Passed (s : List ℕ) (at n p m : ℕ) : Type 0 where
+  pub onwards : min (at + 1) (length s) ≤ p
+  pub high : p ≤ length s
+  pub few : m ≤ p + 1
+  pub onto : ahead s at n ≡ follow s p m
+
 -- from `at` on, with the line n, nothing but blanks and joins up to i, which lies in the physical line m
 pub record Between (s : List ℕ) (at n i m : ℕ) : Type 0 where
   pub low : at ≤ i

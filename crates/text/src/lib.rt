@@ -72,3 +72,9 @@ pub struct Opening {
     pub at: usize,
     pub line: usize,
 }
+
+// Where a line starts, and its number.
+pub struct LineStart {
+    pub at: usize,
+    pub line: usize,
+}

@@ -4,8 +4,9 @@ ghost use Prim.Native.Nat.{_+_, _≤_, _<_};
 ghost use lib.ListN.{length};
 ghost use Rattle.text.specs.Bytes.{part, anyOf};
 ghost use Rattle.text.specs.Words.{badByte};
-ghost use Rattle.text.specs.Reading.{WordEnd, PlainEnd, Skipped, OddWord, CommentEnd, FastWord, NextWord, Opens, Table, Fenced, Within};
+ghost use Rattle.text.specs.Reading.{WordEnd, PlainEnd, Skipped, OddWord, CommentEnd, FastWord, NextWord, FirstFeed, Passed, Opens, Table, Fenced, Within};
 use super::Fast;
+use super::LineStart;
 use super::Next;
 use super::Opening;
 use super::WordAt;
@@ -286,5 +287,73 @@ pub fn open_line(s: &[u8], t: &[u8; 512], from: usize, line: usize) -> Opening
         heading: false,
         at: i,
         line: l,
+    }
+}
+
+// The first LF from `from` on, which lies before the fence.
+fn first_feed(s: &[u8], fence: usize, from: usize) -> usize
+    requires { ⌜ (from < fence) × Fenced (now s) fence ⌝ }
+    ensures { λ r. ⌜ FirstFeed (now (s .entry)) from r × (r < fence) ⌝ }
+{
+    let mut i = from;
+    loop {
+        if s[i] == 10 {
+            return i;
+        }
+        if s[i + 1] == 10 {
+            return i + 1;
+        }
+        if s[i + 2] == 10 {
+            return i + 2;
+        }
+        if s[i + 3] == 10 {
+            return i + 3;
+        }
+        i += 4;
+    }
+}
+
+// The rest of a line passed over word by word: where the next line starts.
+fn pass_words(s: &[u8], t: &[u8; 512], fence: usize, from: usize, line: usize) -> LineStart
+    requires { ⌜ Within (now s) (now t) fence from line ⌝ }
+    ensures { λ r. ⌜ Passed (now (s .entry)) from line (r .at) (r .line) ⌝ }
+{
+    let mut i = from;
+    let mut l = line;
+    loop {
+        match next_word(s, t, fence, i, l) {
+            Next::Found {
+                start: _,
+                end,
+                line,
+                fault: _,
+            } => {
+                i = end;
+                l = line;
+            }
+            Next::Stop { next, line } => {
+                return LineStart { at: next, line };
+            }
+        }
+    }
+}
+
+// The rest of a line passed over, from where a word would begin. Only a backslash before the first LF makes it look at words: it may join, or stand in a comment.
+pub fn pass_line(s: &[u8], t: &[u8; 512], fence: usize, from: usize, line: usize) -> LineStart
+    requires { ⌜ Within (now s) (now t) fence from line ⌝ }
+    ensures { λ r. ⌜ Passed (now (s .entry)) from line (r .at) (r .line) ⌝ }
+{
+    if fence <= from {
+        return pass_words(s, t, fence, from, line);
+    }
+    let i = first_feed(s, fence, from);
+    if from < i {
+        if s[i - 1] == 92 {
+            return pass_words(s, t, fence, from, line);
+        }
+    }
+    LineStart {
+        at: i + 1,
+        line: line + 1,
     }
 }

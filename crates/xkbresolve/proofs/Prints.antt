@@ -13,8 +13,8 @@ use Rattle.io.specs.Counts.{Counts}
 use Rattle.output.specs.Store.{farthest, past, Wrote}
 use Rattle.output.proofs.Stores.{take-stored, wrote-then}
 use Rattle.values.proofs.Writes.{wrote-long}
-use Rattle.resolver.specs.Answer.{sum, total, refused, accepted, lengthsOf, bufferAfter, stretch}
-use Rattle.resolver.proofs.Stretch.{stretch-texts}
+use Rattle.answers.specs.Answer.{sum, total, refused, accepted, lengthsOf, bufferAfter, stretch}
+use Rattle.answers.proofs.Stretch.{stretch-texts}
 use Rattle.xkbresolve.specs.Program.{digits, inDecimal, refusalLine, names, componentLine, componentLines, stretchLines, printed}
 
 -- a number in decimal

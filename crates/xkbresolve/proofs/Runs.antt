@@ -10,10 +10,10 @@ use Rattle.text.specs.Limits.{longestFile}
 use Rattle.text.specs.Bytes.{Text, bytes}
 use Rattle.output.specs.Store.{farthest, Wrote}
 use Rattle.profile.specs.Profile.{Texts, textsOf}
-use Rattle.resolver.specs.declared.Outcome.{Outcome}
-use Rattle.resolver.specs.Answer.{total, Answer, refused, accepted, answer, numberOf, placeOf, lengthsOf, outcome, bufferAfter, Answered}
-use Rattle.resolver.proofs.Answers.{answered}
-use Rattle.resolver.proofs.Places.{number-low, place-low}
+use Rattle.answers.specs.declared.Outcome.{Outcome}
+use Rattle.answers.specs.Answer.{total, Answer, refused, accepted, answer, numberOf, placeOf, lengthsOf, outcome, bufferAfter, Answered}
+use Rattle.answers.proofs.Answers.{answered}
+use Rattle.answers.proofs.Places.{number-low, place-low}
 use Rattle.xkbresolve.specs.Program.{firstLine, laterLines, inputTexts, inputRules, lentRoom, inputAnswer, inDecimal, refusalLine, names, stretchLines, printed, mostPrinted}
 use Rattle.xkbresolve.proofs.Prints.{digits-few, lines-same, size, lines-length, out-text, out-counts}
 

@@ -7,7 +7,7 @@ use lib.Dec.{eqb, ltb}
 use Rattle.text.specs.Limits.{longestFile}
 use Rattle.text.specs.Bytes.{Text, bytes}
 use Rattle.profile.specs.Profile.{Texts, textsOf}
-use Rattle.resolver.specs.Answer.{Answer, refused, accepted, answer, stretch}
+use Rattle.answers.specs.Answer.{Answer, refused, accepted, answer, stretch}
 
 -- a text up to its first LF, and what stands behind that
 unfoldable pub firstLine : Text → Text

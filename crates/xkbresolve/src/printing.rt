@@ -2,9 +2,9 @@
 ghost use Prim.Native.Nat.{_≤_};
 ghost use lib.ListN.{length};
 ghost use Rattle.output.specs.Store.{farthest, Wrote};
-ghost use Rattle.resolver.specs.Answer.{stretch};
+ghost use Rattle.answers.specs.Answer.{stretch};
 ghost use Rattle.xkbresolve.specs.Program.{inDecimal, refusalLine, names, componentLine, stretchLines};
-use resolver::components::component;
+use answers::components::component;
 use values::write::put_byte;
 use values::write::put_text;
 

@@ -16,9 +16,9 @@ use Rattle.profile.specs.Profile.{Texts}
 use Rattle.profile.specs.Options.{Alike, Within, withOptions}
 use Rattle.profile.proofs.Options.{same-profile, same-refusals}
 use Rattle.profile.proofs.Counts.{untested}
-use Rattle.resolver.specs.Answer.{tenTexts, sum, total, refusals, Answer, refused, accepted, firstOf, answer, lengthsOf, stretchStart, stretchLength, Answered}
-use Rattle.resolver.proofs.Answers.{accepted-first, answered}
-use Rattle.resolver.proofs.Accepted.{texts-fit}
+use Rattle.answers.specs.Answer.{tenTexts, sum, total, refusals, Answer, refused, accepted, firstOf, answer, lengthsOf, stretchStart, stretchLength, Answered}
+use Rattle.answers.proofs.Answers.{accepted-first, answered}
+use Rattle.answers.proofs.Accepted.{texts-fit}
 use Rattle.xkbrules.specs.Sheet.{sheetLength, entryRefusals, entryAnswer, sheetAfter, lengthsIn, componentCode}
 use Rattle.xkbrules.proofs.Sheet.{sheet-lengths, sheet-later, sheet-long}
 

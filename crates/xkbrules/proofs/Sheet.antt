@@ -10,8 +10,8 @@ use lib.Seq.{getD-append-add, drop-at, take-all}
 use lib.Dec.{leb, ltb}
 use borrow.Author.Tests.{lt-ltb, le-ltb, le-leb, lt-leb, leb-false}
 use Rattle.text.specs.Bytes.{Text, concatMap}
-use Rattle.resolver.specs.Answer.{sum, total, accepted, stretchStart, stretchLength}
-use Rattle.resolver.proofs.Stretch.{sum-take, in-order}
+use Rattle.answers.specs.Answer.{sum, total, accepted, stretchStart, stretchLength}
+use Rattle.answers.proofs.Stretch.{sum-take, in-order}
 use Rattle.xkbrules.specs.Sheet.{sheetLength, littleEndian, sheetAfter, numberAt, numbersFrom, lengthsIn, componentCode}
 
 -- a number in four bytes

@@ -6,10 +6,10 @@ use mathlib.Core.List.{_++_}
 use lib.ListN.{length, drop}
 use Rattle.text.specs.Bytes.{Text, concatMap}
 use Rattle.profile.specs.Profile.{Texts}
-use Rattle.resolver.specs.declared.Outcome.{Outcome}
-use Rattle.resolver.specs.Answer.{Answer, refused, accepted, answer, numberOf, placeOf, lengthsOf, outcome, bufferAfter, Answered}
-use Rattle.resolver.proofs.Answers.{answered}
-use Rattle.resolver.proofs.Places.{number-low, place-low}
+use Rattle.answers.specs.declared.Outcome.{Outcome}
+use Rattle.answers.specs.Answer.{Answer, refused, accepted, answer, numberOf, placeOf, lengthsOf, outcome, bufferAfter, Answered}
+use Rattle.answers.proofs.Answers.{answered}
+use Rattle.answers.proofs.Places.{number-low, place-low}
 use Rattle.xkbrules.specs.Sheet.{sheetLength, littleEndian, entryAnswer, code, sheetAfter}
 use Rattle.xkbrules.proofs.Entry.{entry-same, entry-refused, entry-short}
 

@@ -8,7 +8,7 @@ use Rattle.text.specs.declared.Refusal.{Refusal}
 use Rattle.text.specs.Bytes.{Text, concatMap}
 use Rattle.text.specs.Refusals.{refusedIf}
 use Rattle.profile.specs.Profile.{Texts}
-use Rattle.resolver.specs.Answer.{tenTexts, refusals, Answer, refused, accepted, firstOf, numberOf, placeOf, sum, stretchStart, stretchLength}
+use Rattle.answers.specs.Answer.{tenTexts, refusals, Answer, refused, accepted, firstOf, numberOf, placeOf, sum, stretchStart, stretchLength}
 
 -- "the ten lengths are written as little-endian 32-bit numbers into the first 40 bytes of a lent sheet"
 abbrev pub sheetLength : ℕ

@@ -3,11 +3,11 @@ ghost use mathlib.Core.Path.{_≡_};
 ghost use Prim.Native.Nat.{_+_, _*_, _^_, _≤_};
 ghost use lib.ListN.{length};
 ghost use Rattle.profile.specs.Profile.{textsOf};
-ghost use Rattle.resolver.specs.Answer.{bufferAfter};
+ghost use Rattle.answers.specs.Answer.{bufferAfter};
 ghost use Rattle.xkbrules.specs.Sheet.{entryAnswer, code, sheetAfter, componentCode};
+use answers::components::sum_first;
 use lengths::lengths_in;
 use lengths::put_lengths;
-use resolver::components::sum_first;
 use resolver::resolving::measure;
 use resolver::resolving::resolve;
 

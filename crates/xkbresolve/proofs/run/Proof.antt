@@ -58,7 +58,7 @@ same-length-2 : tie.Need-same-length-2
 same-length-2 c = search needs
 
 returns-2 : tie.Need-returns-2
-returns-2 c = out-refused _ _ _ (c .before .before .before .before .before .before .before .before .before .before .before .before .before .before .before .before .before .before .before .before .pre .0) (c .before .before .before .before .before .before .before .before .before .before .before .before .before .before .before .before .before .before .before .before .pre .1) (now (c .before .before .before .before .before .before .before .before .before .before .before .before .before .before .before .before .before .before .before .before .args .input)) (replicate 65536 0) _ _ _ (length-replicate {A = ℕ} 65536 0) (c .before .before .before .before .before .before .before .resolve .ensures .0)
+returns-2 c = out-refused _ _ _ (c .before .before .before .before .before .before .before .before .before .before .before .before .before .before .before .before .before .before .before .before .pre .0) (c .before .before .before .before .before .before .before .before .before .before .before .before .before .before .before .before .before .before .before .before .pre .1) (now (c .before .before .before .before .before .before .before .before .before .before .before .before .before .before .before .before .before .before .before .before .args .input)) (replicate 65536 0) _ _ _ (length-replicate {A = ℕ} 65536 0) (c .before .before .before .before .before .before .before .resolve .ensures .result)
     (input-answer _ _ _ _ _ _ _ _ _ (c .before .before .before .before .before .before .before .before .before .before .before .before .before .before .before .before .before .if1 .left) (c .before .before .before .before .before .before .before .before .before .before .before .before .before .before .before .before .first-line .ensures) (c .before .before .before .before .before .before .before .before .before .before .before .before .before .before .before .later-lines .ensures) (c .before .before .before .before .before .before .before .before .before .before .before .before .before .before .first-line2 .ensures) (c .before .before .before .before .before .before .before .before .before .before .before .before .before .later-lines2 .ensures)
     (c .before .before .before .before .before .before .before .before .before .before .before .before .first-line3 .ensures) (c .before .before .before .before .before .before .before .before .before .before .before .later-lines3 .ensures) (c .before .before .before .before .before .before .before .before .before .before .first-line4 .ensures) (c .before .before .before .before .before .before .before .before .before .later-lines4 .ensures))
     (c .before .before .before .before .if2 .taken) (c .before .before .put-refusal2 .ensures)
@@ -76,10 +76,10 @@ same-length-3 : tie.Need-same-length-3
 same-length-3 c = search needs
 
 returns-3 : tie.Need-returns-3
-returns-3 c = out-accepted _ _ _ (c .before .before .before .before .before .before .before .before .before .before .before .before .before .before .before .before .before .before .before .before .before .before .pre .0) (c .before .before .before .before .before .before .before .before .before .before .before .before .before .before .before .before .before .before .before .before .before .before .pre .1) (now (c .before .before .before .before .before .before .before .before .before .before .before .before .before .before .before .before .before .before .before .before .before .before .args .input)) (replicate 65536 0) _ _ _ (length-replicate {A = ℕ} 65536 0) (c .before .before .before .before .before .before .before .before .before .resolve .ensures .0)
+returns-3 c = out-accepted _ _ _ (c .before .before .before .before .before .before .before .before .before .before .before .before .before .before .before .before .before .before .before .before .before .before .pre .0) (c .before .before .before .before .before .before .before .before .before .before .before .before .before .before .before .before .before .before .before .before .before .before .pre .1) (now (c .before .before .before .before .before .before .before .before .before .before .before .before .before .before .before .before .before .before .before .before .before .before .args .input)) (replicate 65536 0) _ _ _ (length-replicate {A = ℕ} 65536 0) (c .before .before .before .before .before .before .before .before .before .resolve .ensures .result)
     (input-answer _ _ _ _ _ _ _ _ _ (c .before .before .before .before .before .before .before .before .before .before .before .before .before .before .before .before .before .before .before .if1 .left) (c .before .before .before .before .before .before .before .before .before .before .before .before .before .before .before .before .before .before .first-line .ensures) (c .before .before .before .before .before .before .before .before .before .before .before .before .before .before .before .before .before .later-lines .ensures) (c .before .before .before .before .before .before .before .before .before .before .before .before .before .before .before .before .first-line2 .ensures) (c .before .before .before .before .before .before .before .before .before .before .before .before .before .before .before .later-lines2 .ensures)
     (c .before .before .before .before .before .before .before .before .before .before .before .before .before .before .first-line3 .ensures) (c .before .before .before .before .before .before .before .before .before .before .before .before .before .later-lines3 .ensures) (c .before .before .before .before .before .before .before .before .before .before .before .before .first-line4 .ensures) (c .before .before .before .before .before .before .before .before .before .before .before .later-lines4 .ensures))
-    _ (c .before .before .before .before .before .before .if2 .left) (c .before .before .before .before .before .before .before .before .before .resolve .ensures .1) (c .before .before .put-components .ensures)
+    _ (c .before .before .before .before .before .before .if2 .left) (c .before .before .before .before .before .before .before .before .before .resolve .ensures .buffer) (c .before .before .put-components .ensures)
 
 pub run-spec : {M : Type 1} → statement M
 run-spec =

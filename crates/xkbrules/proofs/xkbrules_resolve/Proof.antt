@@ -33,16 +33,16 @@ same-length-2 : tie.Need-same-length-2
 same-length-2 c = search needs
 
 returns-3 : tie.Need-returns-3
-returns-3 c = way-accepted _ _ _ _ (c .before .before .before .before .before .before .before .before .before .resolve .ensures .0) (c .before .before .before .before .before .before .before .before .before .before .before .before .before .before .before .before .before .before .before .args .sheet .now) _ _ (c .before .before .before .before .before .before .before .before .before .before .before .if1 .left) (c .before .before .before .before .before .if3 .taken) (c .before .before .before .before .before .before .before .before .before .resolve .ensures .1) (c .before .before .put-lengths .ensures)
+returns-3 c = way-accepted _ _ _ _ (c .before .before .before .before .before .before .before .before .before .resolve .ensures .result) (c .before .before .before .before .before .before .before .before .before .before .before .before .before .before .before .before .before .before .before .args .sheet .now) _ _ (c .before .before .before .before .before .before .before .before .before .before .before .if1 .left) (c .before .before .before .before .before .if3 .taken) (c .before .before .before .before .before .before .before .before .before .resolve .ensures .buffer) (c .before .before .put-lengths .ensures)
 
 packed-requires-3 : tie.Need-packed-requires-3
-packed-requires-3 c κs = packs (c .before .before .before .before .before .before .before .before .before .before .before .before .before .before .args .texts .now) (c .before .before .before .before .before .before .before .before .before .before .before .before .before .before .args .rules .now) (textsOf (c .before .before .before .before .before .before .before .before .before .before .before .before .before .before .args .model .now) (c .before .before .before .before .before .before .before .before .before .before .before .before .before .before .args .layouts .now) (c .before .before .before .before .before .before .before .before .before .before .before .before .before .before .args .variants .now) (c .before .before .before .before .before .before .before .before .before .before .before .before .before .before .args .options .now)) _ (c .before .before .before .before .resolve .ensures .0)
+packed-requires-3 c κs = packs (c .before .before .before .before .before .before .before .before .before .before .before .before .before .before .args .texts .now) (c .before .before .before .before .before .before .before .before .before .before .before .before .before .before .args .rules .now) (textsOf (c .before .before .before .before .before .before .before .before .before .before .before .before .before .before .args .model .now) (c .before .before .before .before .before .before .before .before .before .before .before .before .before .before .args .layouts .now) (c .before .before .before .before .before .before .before .before .before .before .before .before .before .before .args .variants .now) (c .before .before .before .before .before .before .before .before .before .before .before .before .before .before .args .options .now)) _ (c .before .before .before .before .resolve .ensures .result)
 
 same-length-3 : tie.Need-same-length-3
 same-length-3 c = search needs
 
 returns-4 : tie.Need-returns-4
-returns-4 c = way-refused _ _ _ _ (c .before .before .before .before .before .resolve .ensures .0) (c .before .before .before .before .before .before .before .before .before .before .before .before .before .before .before .args .sheet .now) _ _ (c .before .if3 .left) (c .packed3 .ensures) (c .before .before .before .before .before .resolve .ensures .1)
+returns-4 c = way-refused _ _ _ _ (c .before .before .before .before .before .resolve .ensures .result) (c .before .before .before .before .before .before .before .before .before .before .before .before .before .before .before .args .sheet .now) _ _ (c .before .if3 .left) (c .packed3 .ensures) (c .before .before .before .before .before .resolve .ensures .buffer)
 
 pub xkbrules-resolve-spec : {M : Type 1} → statement M
 xkbrules-resolve-spec =

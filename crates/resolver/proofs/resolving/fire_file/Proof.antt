@@ -5,7 +5,7 @@ use native.Mathlib.Omega.{arith}
 use mathlib.Core.Path.{refl, ap}
 use Rattle.text.proofs.Entries.{entries, table-right}
 use Rattle.profile.proofs.Counts.{few-options}
-use Rattle.resolver.specs.declared.Cursors.{Cursors}
+use Rattle.firing.specs.declared.Cursors.{Cursors}
 use Rattle.resolver.proofs.Resolves.{short, some-layouts, few-layouts}
 
 list-options-requires : tie.Need-list-options-requires

@@ -3,9 +3,9 @@ use Rattle.resolver.proofs.resolving.measure.Statement.{statement}
 use Rattle.resolver.proofs.resolving.measure.Tie as tie
 use native.Mathlib.Omega.{arith}
 use mathlib.Core.Path.{refl, sym, ap, _∙_}
-use Rattle.resolver.specs.Answer.{tenTexts}
+use Rattle.answers.specs.Answer.{tenTexts}
 use Rattle.resolver.proofs.Resolves.{profile-refused, profile-clear, file-refused, file-clear, lines-clear, room-refused, all-accepted}
-use Rattle.resolver.proofs.Measured.{low-zeros, low-counted, room-counted, lengths-counted}
+use Rattle.firing.proofs.Measured.{low-zeros, low-counted, room-counted, lengths-counted}
 
 check-requires : tie.Need-check-requires
 check-requires c κs = search needs

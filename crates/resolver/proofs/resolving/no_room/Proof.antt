@@ -2,7 +2,7 @@ use Rattle.resolver.proofs.resolving.no_room.Statement.{statement}
 use Rattle.resolver.proofs.resolving.no_room.Tie as tie
 use mathlib.Core.Path.{refl, sym}
 use borrow.Author.Tests.{lt-ltb, le-ltb}
-use Rattle.resolver.specs.Answer.{noRoom}
+use Rattle.answers.specs.Answer.{noRoom}
 
 returns : tie.Need-returns
 unfolding noRoom

@@ -1,7 +1,7 @@
 use Rattle.resolver.proofs.resolving.refused.Statement.{statement}
 use Rattle.resolver.proofs.resolving.refused.Tie as tie
 use mathlib.Core.Path.{refl}
-use Rattle.resolver.specs.Answer.{outcome, numberOf, placeOf, lengthsOf}
+use Rattle.answers.specs.Answer.{outcome, numberOf, placeOf, lengthsOf}
 
 returns : tie.Need-returns
 unfolding outcome numberOf placeOf lengthsOf

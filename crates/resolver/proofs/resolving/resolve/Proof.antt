@@ -9,7 +9,7 @@ measure-requires : tie.Need-measure-requires
 measure-requires c κs = search needs
 
 returns : tie.Need-returns
-returns c = (c .before .before .measure .ensures, buffer-kept _ _ _ _ (c .before .before .measure .ensures) (c .if1 .taken))
+returns c = record { result = c .before .before .measure .ensures; buffer = buffer-kept _ _ _ _ (c .before .before .measure .ensures) (c .if1 .taken) }
 
 places-requires : tie.Need-places-requires
 places-requires c κs = low-accepted _ _ _ _ (c .before .before .before .measure .ensures) (accepts _ _ _ _ (c .before .before .before .measure .ensures) (c .before .if1 .left))
@@ -37,7 +37,10 @@ same-length c = search needs
 
 returns-2 : tie.Need-returns-2
 returns-2 c = let a = accepts _ _ _ _ (c .before .before .before .before .before .before .before .before .before .before .measure .ensures) (c .before .before .before .before .before .before .before .before .if1 .left) in
-    (c .before .before .before .before .before .before .before .before .before .before .measure .ensures, buffer-written _ _ _ _ (c .before .before .before .before .before .before .before .before .before .before .measure .ensures) a _ _ _ (c .before .before .before .before .before .before .places .ensures .0) (c .before .before .before .before .before .before .places .ensures .1) (c .before .before .fire-file .ensures .bytes))
+    record {
+      result = c .before .before .before .before .before .before .before .before .before .before .measure .ensures;
+      buffer = buffer-written _ _ _ _ (c .before .before .before .before .before .before .before .before .before .before .measure .ensures) a _ _ _ (c .before .before .before .before .before .before .places .ensures .0) (c .before .before .before .before .before .before .places .ensures .1) (c .before .before .fire-file .ensures .bytes);
+    }
 
 pub resolve-spec : {M : Type 1} → statement M
 resolve-spec =

@@ -6,8 +6,8 @@ use Rattle.resolver.proofs.HeadingRuns.{heading-none, heading-run, rang
 use borrow.Author.Needs.{needs}
 use Rattle.resolver.proofs.running.run_heading.Statement.{statement}
 use Rattle.resolver.proofs.running.run_heading.Tie as tie
-use Rattle.resolver.proofs.ranges.has_options.Reads as has-options-reads
-use Rattle.resolver.proofs.ranges.layout_range.Reads as layout-range-reads
+use Rattle.matching.proofs.ranges.has_options.Reads as has-options-reads
+use Rattle.matching.proofs.ranges.layout_range.Reads as layout-range-reads
 use Rattle.resolver.proofs.running.run_layouts.Reads as run-layouts-reads
 
 layout-range-requires : tie.Need-layout-range-requires

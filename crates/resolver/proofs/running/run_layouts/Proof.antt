@@ -5,8 +5,8 @@ use mathlib.Core.Path.{_≡_, refl, sym, ap, _∙_}
 use lib.ListN.{length}
 use Rattle.text.specs.Reading.{follow}
 use Rattle.profile.specs.Profile.{textsOf, profileOf}
-use Rattle.resolver.specs.Groups.{groupsAt}
-use Rattle.resolver.specs.Running.{headingBy}
+use Rattle.matching.specs.Groups.{groupsAt}
+use Rattle.matching.specs.Held.{headingBy}
 use Rattle.resolver.proofs.RangeLoops.{RangeGoing, range-start, range-more, range-end}
 use Rattle.resolver.proofs.running.run_layouts.Statement.{statement}
 use Rattle.resolver.proofs.running.run_layouts.Tie as tie

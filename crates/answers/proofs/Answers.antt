@@ -1,0 +1,121 @@
+-- What every answer is; the answers of joined files, and of profiles with the same options.
+use Prim.Native.Nat.{ℕ, zero, suc, _+_, _≤_}
+use native.Mathlib.Omega.{arith}
+use mathlib.Core.Path.{_≡_, refl, sym, ap, _∙_}
+use mathlib.Core.List.{List, [], _∷_, _++_, map}
+use mathlib.Core.Bool.{Bool, true, false, _||_, _&&_, cond}
+use lib.ListN.{length}
+use lib.Dec.{ltb, leb}
+use borrow.Author.Tests.{le-ltb, ltb-false, leb-true}
+use Rattle.text.specs.declared.Refusal.{Refusal}
+use Rattle.text.specs.Limits.{longestFile, longestTotal, mostGroups}
+use Rattle.text.specs.Bytes.{Text, allOf, apart}
+use Rattle.text.specs.Lines.{closed}
+use Rattle.text.specs.Refusals.{refusedIf, isNumber, hasNumber}
+use Rattle.text.proofs.Lists.{no, and-both, all-append, nil-left, nil-right}
+use Rattle.text.proofs.Numbers.{if-number}
+use Rattle.profile.specs.Profile.{Texts, profileOf}
+use Rattle.profile.specs.Options.{Alike, Within, withOptions}
+use Rattle.profile.specs.Refusals.{profileRefusals}
+use Rattle.profile.proofs.Options.{same-profile, same-refusals}
+use Rattle.profile.proofs.Numbers.{profile-numbers}
+use Rattle.rules.specs.Faults.{Group, lineFaults, fileRefusals}
+use Rattle.rules.specs.Names.{groupsOf, definesOf, namesOf}
+use Rattle.rules.proofs.Joined.{joined-lines}
+use Rattle.rules.proofs.Numbers.{file-numbers}
+use Rattle.answers.specs.Firings.{Firing, fileFirings}
+use Rattle.answers.specs.Answer.{textsFrom, tenTexts, total, noRoom, refusals, Answer, refused, accepted, firstOf, answer, Answered}
+use Rattle.answers.specs.Joined.{together}
+use Rattle.answers.proofs.Joined.{joined-texts}
+
+-- an accepted answer has no refusal, and its texts are the ten
+pub accepted-first : (rs : List Refusal) (ts us : List Text) → firstOf rs ts ≡ accepted us → (rs ≡ []) × (ts ≡ us)
+unfolding firstOf
+accepted-first [] ts us h = (refl, cc)
+accepted-first (r ∷ rs) ts us h = (cc, cc)
+
+-- every answer is ten texts that fit, or a refusal with a number
+
+ten : (c n : ℕ) (fs : List Firing) → length (textsFrom c n fs) ≡ n + n
+unfolding textsFrom
+ten c zero fs = refl
+ten c (suc n) fs = let e : length (textsFrom (suc c) n fs) ≡ n + n = ten (suc c) n fs in omega arith
+
+ten-texts : (f : Text) (t : Texts) → length (tenTexts f t) ≡ 10
+unfolding tenTexts
+ten-texts f t = ten 0 5 (fileFirings f (profileOf t))
+
+numbers : (room : ℕ) (f : Text) (t : Texts) → allOf hasNumber (refusals room f t) ≡ true
+unfolding refusals isNumber
+numbers room f t =
+    all-append hasNumber (profileRefusals t) _ (profile-numbers t)
+    (all-append hasNumber (fileRefusals f) _ (file-numbers f) (if-number _ 11 0 refl))
+
+fits : (t : Bool) (n p : ℕ) → refusedIf t n p ≡ [] → t ≡ false
+unfolding refusedIf
+fits true n p h = cc
+fits false n p h = refl
+
+pub neither : (a b : Bool) → a || b ≡ false → (a ≡ false) × (b ≡ false)
+neither true b h = absurd (no (sym h))
+neither false b h = (refl, h)
+
+accepted-fits : (room : ℕ) (f : Text) (t : Texts) → refusals room f t ≡ [] → Answered room (firstOf [] (tenTexts f t))
+unfolding refusals noRoom firstOf Answered
+accepted-fits room f t e =
+    let k = fits (noRoom room (total (tenTexts f t))) 11 0 (nil-right (fileRefusals f) _ (nil-right (profileRefusals t) _ e)) in
+    let w = neither (ltb room (total (tenTexts f t))) (ltb longestTotal (total (tenTexts f t))) k in
+    (ten-texts f t, ltb-false room _ (w .0), ltb-false longestTotal _ (w .1))
+
+refused-number : (room : ℕ) (r : Refusal) (rs : List Refusal) (ts : List Text) → allOf hasNumber (r ∷ rs) ≡ true → Answered room (firstOf (r ∷ rs) ts)
+unfolding allOf hasNumber isNumber firstOf Answered
+refused-number room r rs ts h =
+    let w = and-both (leb 1 (r .number)) (leb (r .number) 11) (and-both (hasNumber r) (allOf hasNumber rs) h .0) in
+    (leb-true 1 (r .number) (w .0), leb-true (r .number) 11 (w .1))
+
+pub answered : (room : ℕ) (f : Text) (t : Texts) → Answered room (answer room f t)
+unfolding answer
+answered room f t = go (refusals room f t) refl (numbers room f t)
+  where
+    go : (rs : List Refusal) → refusals room f t ≡ rs → allOf hasNumber rs ≡ true → Answered room (firstOf rs (tenTexts f t))
+    go [] e h = accepted-fits room f t e
+    go (r ∷ rs) e h = refused-number room r rs (tenTexts f t) h
+
+length-names : (gs : List Group) → length (map (λ g. g .name) gs) ≡ length gs
+length-names [] = refl
+length-names (g ∷ gs) = rw (length-names gs)
+
+module _ (a b : Text) (t : Texts) (room-a room-b room : ℕ) (xs ys : List Text)
+    (acc-a : answer room-a a t ≡ accepted xs) (acc-b : answer room-b b t ≡ accepted ys)
+    (end : closed a ≡ true) (names : apart (namesOf b) (definesOf a) ≡ true) where
+  first-a : (refusals room-a a t ≡ []) × (tenTexts a t ≡ xs)
+  unfolding answer
+  first-a = accepted-first (refusals room-a a t) (tenTexts a t) xs acc-a
+
+  first-b : (refusals room-b b t ≡ []) × (tenTexts b t ≡ ys)
+  unfolding answer
+  first-b = accepted-first (refusals room-b b t) (tenTexts b t) ys acc-b
+
+  lines-a : lineFaults a ≡ []
+  unfolding refusals fileRefusals
+  lines-a = nil-right (refusedIf (ltb longestFile (length a)) 3 0) _ (nil-left (fileRefusals a) _ (nil-right (profileRefusals t) _ (first-a .0)))
+
+  lines-b : lineFaults b ≡ []
+  unfolding refusals fileRefusals
+  lines-b = nil-right (refusedIf (ltb longestFile (length b)) 3 0) _ (nil-left (fileRefusals b) _ (nil-right (profileRefusals t) _ (first-b .0)))
+
+  texts-ab : tenTexts (a ++ b) t ≡ together xs ys
+  texts-ab = joined-texts a b end lines-a lines-b names t ∙ rw (first-a .1, first-b .1)
+
+  pub joined-answer : length (a ++ b) ≤ longestFile → length (definesOf a) + length (definesOf b) ≤ mostGroups →
+      total (together xs ys) ≤ longestTotal → total (together xs ys) ≤ room → answer room (a ++ b) t ≡ accepted (together xs ys)
+  unfolding answer refusals fileRefusals refusedIf noRoom firstOf definesOf
+  joined-answer size groups top fits =
+      let p : profileRefusals t ≡ [] = nil-left (profileRefusals t) _ (first-a .0) in
+      let g : length (groupsOf a) + length (groupsOf b) ≤ mostGroups = rw (length-names (groupsOf a), length-names (groupsOf b)) at groups in
+      rw (p, le-ltb longestFile _ size, joined-lines a b end lines-a lines-b names g, texts-ab, le-ltb room _ fits, le-ltb longestTotal _ top)
+
+pub options-answer : (room : ℕ) (f : Text) (t : Texts) (o o′ : Text) → Alike o o′ → Within o → Within o′ →
+    answer room f (withOptions t o) ≡ answer room f (withOptions t o′)
+unfolding answer refusals tenTexts
+options-answer room f t o o′ h w w′ = rw (same-refusals t o o′ h w w′, same-profile t o o′ h)

@@ -1,0 +1,204 @@
+-- Firings of appended and of shifted sections, beside groups that are not named; and that every fired value has a byte.
+use Prim.Native.Nat.{ℕ, _+_}
+use mathlib.Core.Path.{_≡_, refl, sym, ap, _∙_, fun-ext}
+use mathlib.Core.List.{List, [], _∷_, _++_, map, append-assoc}
+use mathlib.Core.Bool.{Bool, true, false, not, _||_, _&&_, cond}
+use lib.ListN.{length, take}
+use lib.Dec.{eqb}
+use Rattle.text.specs.Bytes.{Text, Words, same, empty, rest, allOf, anyOf, concatMap}
+use Rattle.text.specs.Lines.{lines}
+use Rattle.text.proofs.Lists.{no, and-both, map-append, map-concat, all-append, all-concat, all-cond}
+use Rattle.profile.specs.Profile.{Profile, layoutCount}
+use Rattle.rules.specs.declared.Column.{Column}
+use Rattle.rules.specs.declared.Column.the-variants as column
+use Rattle.rules.specs.Words.{hasDollar}
+use Rattle.rules.specs.Headings.{Heading}
+use Rattle.rules.specs.Sections.{Rule, Head, bad, defines, applies, Section, sections}
+use Rattle.rules.specs.Faults.{Group, Groups, defined, withGroup, groupsAfter, leftWords, rightWords}
+use Rattle.rules.proofs.Shifted.{shiftRule, shiftSection}
+use Rattle.rules.proofs.Fresh.{freshWord, freshHead, fresh, with-beside}
+use Rattle.values.specs.Spread.{expanded}
+use Rattle.answers.specs.Matching.{members, wordMatches, valueMatches, columnMatches, ruleMatches, isOptions}
+use Rattle.answers.specs.Layouts.{layoutsOf}
+use Rattle.answers.specs.Firings.{Firing, fired, ruleFires, setFires, headFires, firings, fileFirings}
+use Rattle.answers.specs.Components.{valuesOf}
+use Rattle.answers.proofs.Updates.{nonEmpty}
+
+-- appended
+
+pub firings-append : (gs : Groups) (p : Profile) (a b : List Section) → firings gs p (a ++ b) ≡ firings gs p a ++ firings (groupsAfter gs a) p b
+unfolding firings groupsAfter
+firings-append gs p [] b = refl
+firings-append gs p (s ∷ a) b = rw (firings-append (withGroup (s .head) gs) p a b, append-assoc)
+
+-- shifted
+
+unfoldable pub shiftFiring : ℕ → Firing → Firing
+shiftFiring k f = record { line = f .line + k; layout = f .layout; component = f .component; value = f .value }
+
+map-arms {ℓ κ} : {A : Type ℓ} {B : Type κ} (f : A → B) (t u : Bool) (a b : List A) →
+    cond t (map f a ++ cond u (map f b) []) (map f b) ≡ map f (cond t (a ++ cond u b []) b)
+map-arms f true true a b = sym (map-append f a b)
+map-arms f true false a b = sym (map-append f a [])
+map-arms f false u a b = refl
+
+fired-shift : (j n k c : ℕ) (v : Text) → fired (n + j) k c v ≡ map (shiftFiring j) (fired n k c v)
+unfolding fired shiftFiring empty
+fired-shift j n k c [] = refl
+fired-shift j n k c (b ∷ v) = refl
+
+rule-fires-shift : (p : Profile) (j n k : ℕ) (cs : List ℕ) (ws : Words) → ruleFires p (n + j) k cs ws ≡ map (shiftFiring j) (ruleFires p n k cs ws)
+unfolding ruleFires
+rule-fires-shift p j n k [] ws = refl
+rule-fires-shift p j n k (c ∷ cs) [] = refl
+rule-fires-shift p j n k (c ∷ cs) (w ∷ ws) = rw (fired-shift, rule-fires-shift p j n k cs ws, map-append)
+
+set-fires-shift : (every : Bool) (look : Text → Words) (p : Profile) (h : Heading) (j k : ℕ) (rs : List Rule) →
+    setFires every look p h k (map (shiftRule j) rs) ≡ map (shiftFiring j) (setFires every look p h k rs)
+unfolding setFires shiftRule
+set-fires-shift every look p h j k [] = refl
+set-fires-shift every look p h j k (r ∷ rs) =
+    rw (rule-fires-shift p j (r .number) k (h .components) (rightWords h (r .text)), set-fires-shift every look p h j k rs)
+    (map-arms (shiftFiring j) (ruleMatches look p k (h .columns) (r .text)) every (ruleFires p (r .number) k (h .components) (rightWords h (r .text))) (setFires every look p h k rs))
+
+head-fires-shift : (gs : Groups) (p : Profile) (k : ℕ) (h : Head) (rs : List Rule) →
+    headFires gs p h (map (shiftRule k) rs) ≡ map (shiftFiring k) (headFires gs p h rs)
+unfolding headFires
+head-fires-shift gs p k (bad j) rs = refl
+head-fires-shift gs p k (defines g ms) rs = refl
+head-fires-shift gs p k (applies h) rs =
+    map-concat (shiftFiring k) _ _ (layoutsOf (layoutCount p) h) (λ i. set-fires-shift (anyOf isOptions (h .columns)) (members gs) p h k i rs)
+
+pub firings-shift : (gs : Groups) (p : Profile) (k : ℕ) (ss : List Section) →
+    firings gs p (map (shiftSection k) ss) ≡ map (shiftFiring k) (firings gs p ss)
+unfolding firings shiftSection
+firings-shift gs p k [] = refl
+firings-shift gs p k (s ∷ ss) =
+    rw (head-fires-shift gs p k (s .head) (s .rules), firings-shift (withGroup (s .head) gs) p k ss, map-append)
+
+-- beside groups that are not named
+
+members-none : (g : Groups) (n : Text) → defined g n ≡ false → members g n ≡ []
+unfolding defined anyOf members
+members-none [] n h = refl
+members-none (e ∷ g) n h = go (same n (e .name)) (members-none g n) h
+  where
+    go : (t : Bool) → (defined g n ≡ false → members g n ≡ []) → t || defined g n ≡ false → cond t (e .members) (members g n) ≡ []
+    go true ih h' = absurd (no (sym h'))
+    go false ih h' = ih h'
+
+members-beside : (gs g : Groups) (n : Text) → defined g n ≡ false → members (gs ++ g) n ≡ members gs n
+unfolding members
+members-beside [] g n h = members-none g n h
+members-beside (e ∷ gs) g n h = rw (members-beside gs g n h)
+
+or-not : (a b : Bool) → not a || not b ≡ true → a ≡ true → b ≡ false
+or-not true true h e = absurd (no h)
+or-not true false h e = refl
+or-not false b h e = absurd (no e)
+
+word-beside : (gs g : Groups) (w : Text) → freshWord g w ≡ true → wordMatches (members (gs ++ g)) w ≡ wordMatches (members gs) w
+unfolding freshWord wordMatches
+word-beside gs g w h = fun-ext (λ v. go v (hasDollar w) refl)
+  where
+    go : (v : Text) (t : Bool) → hasDollar w ≡ t → wordMatches (members (gs ++ g)) w v ≡ wordMatches (members gs) w v
+    go v true e = rw (e, members-beside gs g (rest w) (or-not (hasDollar w) (defined g (rest w)) h e))
+    go v false e = rw e
+
+column-beside : (gs g : Groups) (p : Profile) (k : ℕ) (c : Column) (w : Text) → freshWord g w ≡ true →
+    columnMatches (members (gs ++ g)) p k c w ≡ columnMatches (members gs) p k c w
+unfolding columnMatches valueMatches
+column-beside gs g p k column.Model w h = rw (word-beside gs g w h)
+column-beside gs g p k column.Layout w h = rw (word-beside gs g w h)
+column-beside gs g p k column.Variant w h = rw (word-beside gs g w h)
+column-beside gs g p k column.Options w h = rw (word-beside gs g w h)
+
+rule-beside : (gs g : Groups) (p : Profile) (k : ℕ) (cs : List Column) (ws : Words) → allOf (freshWord g) (take (length cs) ws) ≡ true →
+    ruleMatches (members (gs ++ g)) p k cs ws ≡ ruleMatches (members gs) p k cs ws
+unfolding ruleMatches allOf
+rule-beside gs g p k [] ws h = refl
+rule-beside gs g p k (c ∷ cs) [] h = refl
+rule-beside gs g p k (c ∷ cs) (w ∷ ws) h =
+    let b = and-both (freshWord g w) (allOf (freshWord g) (take (length cs) ws)) h in
+    rw (column-beside gs g p k c w (b .0), rule-beside gs g p k cs ws (b .1))
+
+set-beside : (every : Bool) (gs g : Groups) (p : Profile) (h : Heading) (k : ℕ) (rs : List Rule) →
+    allOf (λ r. allOf (freshWord g) (leftWords h (r .text))) rs ≡ true → setFires every (members (gs ++ g)) p h k rs ≡ setFires every (members gs) p h k rs
+unfolding setFires allOf leftWords
+set-beside every gs g p h k [] f = refl
+set-beside every gs g p h k (r ∷ rs) f =
+    let b = and-both (allOf (freshWord g) (leftWords h (r .text))) (allOf (λ r. allOf (freshWord g) (leftWords h (r .text))) rs) f in
+    rw (rule-beside gs g p k (h .columns) (r .text) (b .0), set-beside every gs g p h k rs (b .1))
+
+head-fires-beside : (gs g : Groups) (p : Profile) (h : Head) (rs : List Rule) → freshHead g h rs ≡ true → headFires (gs ++ g) p h rs ≡ headFires gs p h rs
+unfolding headFires freshHead
+head-fires-beside gs g p (bad k) rs f = refl
+head-fires-beside gs g p (defines n ms) rs f = refl
+head-fires-beside gs g p (applies h) rs f =
+    ap (λ (q : ℕ → List Firing). concatMap q (layoutsOf (layoutCount p) h)) (fun-ext (λ k. set-beside (anyOf isOptions (h .columns)) gs g p h k rs f))
+
+pub firings-beside : (gs g : Groups) (p : Profile) (ss : List Section) → fresh g ss ≡ true → firings (gs ++ g) p ss ≡ firings gs p ss
+unfolding firings fresh allOf
+firings-beside gs g p [] f = refl
+firings-beside gs g p (s ∷ ss) f =
+    let b = and-both (freshHead g (s .head) (s .rules)) (fresh g ss) f in
+    rw (head-fires-beside gs g p (s .head) (s .rules) (b .0), with-beside, firings-beside (withGroup (s .head) gs) g p ss (b .1))
+
+-- every fired value has a byte
+
+abbrev full : Firing → Bool
+full f = not (empty (f .value))
+
+fired-full : (n k c : ℕ) (v : Text) → allOf full (fired n k c v) ≡ true
+unfolding fired allOf empty
+fired-full n k c [] = refl
+fired-full n k c (b ∷ v) = refl
+
+rule-full : (p : Profile) (n k : ℕ) (cs : List ℕ) (ws : Words) → allOf full (ruleFires p n k cs ws) ≡ true
+unfolding ruleFires allOf
+rule-full p n k [] ws = refl
+rule-full p n k (c ∷ cs) [] = refl
+rule-full p n k (c ∷ cs) (w ∷ ws) =
+    all-append full (fired n k c (expanded p k w)) (ruleFires p n k cs ws) (fired-full n k c (expanded p k w)) (rule-full p n k cs ws)
+
+set-full : (every : Bool) (look : Text → Words) (p : Profile) (h : Heading) (k : ℕ) (rs : List Rule) → allOf full (setFires every look p h k rs) ≡ true
+unfolding setFires allOf
+set-full every look p h k [] = refl
+set-full every look p h k (r ∷ rs) =
+    let m = set-full every look p h k rs in
+    let now = ruleFires p (r .number) k (h .components) (rightWords h (r .text)) in
+    let more = cond every (setFires every look p h k rs) [] in
+    all-cond full (ruleMatches look p k (h .columns) (r .text)) (now ++ more) (setFires every look p h k rs)
+    (all-append full now more (rule-full p (r .number) k (h .components) (rightWords h (r .text))) (all-cond full every (setFires every look p h k rs) [] m refl))
+    m
+
+head-full : (gs : Groups) (p : Profile) (h : Head) (rs : List Rule) → allOf full (headFires gs p h rs) ≡ true
+unfolding headFires allOf
+head-full gs p (bad k) rs = refl
+head-full gs p (defines g ms) rs = refl
+head-full gs p (applies h) rs =
+    all-concat full _ (layoutsOf (layoutCount p) h) (λ k. set-full (anyOf isOptions (h .columns)) (members gs) p h k rs)
+
+firings-full : (gs : Groups) (p : Profile) (ss : List Section) → allOf full (firings gs p ss) ≡ true
+unfolding firings allOf
+firings-full gs p [] = refl
+firings-full gs p (s ∷ ss) =
+    all-append full (headFires gs p (s .head) (s .rules)) _ (head-full gs p (s .head) (s .rules)) (firings-full (withGroup (s .head) gs) p ss)
+
+values-full : (c : ℕ) (fs : List Firing) → allOf full fs ≡ true → allOf nonEmpty (valuesOf c fs) ≡ true
+unfolding valuesOf allOf
+values-full c [] h = refl
+values-full c (f ∷ fs) h = go (eqb (f .component) c) (and-both (full f) (allOf full fs) h .0) (values-full c fs (and-both (full f) (allOf full fs) h .1))
+  where
+    go : (t : Bool) → full f ≡ true → allOf nonEmpty (valuesOf c fs) ≡ true → allOf nonEmpty (cond t (f .value ∷ valuesOf c fs) (valuesOf c fs)) ≡ true
+    go true e ih = rw (e, ih)
+    go false e ih = ih
+
+pub file-values : (f : Text) (p : Profile) (c : ℕ) → allOf nonEmpty (valuesOf c (fileFirings f p)) ≡ true
+unfolding fileFirings
+file-values f p c = values-full c (firings [] p (sections (lines f) .1)) (firings-full [] p (sections (lines f) .1))
+
+pub values-shift : (c k : ℕ) (fs : List Firing) → valuesOf c (map (shiftFiring k) fs) ≡ valuesOf c fs
+unfolding valuesOf shiftFiring
+values-shift c k [] = refl
+values-shift c k (f ∷ fs) = rw (values-shift c k fs)

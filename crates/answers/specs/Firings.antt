@@ -1,0 +1,53 @@
+-- The values that fire, in firing order. Document 01, "Which sets apply, and at which layout".
+use Prim.Native.Nat.{ℕ}
+use mathlib.Core.List.{List, [], _∷_, _++_}
+use mathlib.Core.Bool.{Bool, cond}
+use Rattle.text.specs.Bytes.{Text, Words, empty, anyOf, concatMap}
+use Rattle.text.specs.Lines.{lines}
+use Rattle.profile.specs.Profile.{Profile, layoutCount}
+use Rattle.rules.specs.Headings.{Heading}
+use Rattle.rules.specs.Sections.{Rule, Head, bad, defines, applies, Section, sections}
+use Rattle.rules.specs.Faults.{Groups, withGroup, rightWords}
+use Rattle.values.specs.Spread.{expanded}
+use Rattle.answers.specs.Matching.{members, ruleMatches, isOptions}
+use Rattle.answers.specs.Layouts.{layoutsOf}
+
+-- a value that fired: the rule's line, the layout (0 if the heading has neither layout nor variant), the component, the text
+pub record Firing : Type 0 where
+  pub line : ℕ
+  pub layout : ℕ
+  pub component : ℕ
+  pub value : Text
+
+-- "A fired value that is empty does nothing."
+unfoldable pub fired : ℕ → ℕ → ℕ → Text → List Firing
+fired n k c v = cond (empty v) [] (record { line = n; layout = k; component = c; value = v } ∷ [])
+
+-- the values of one rule, in the heading's order
+unfoldable pub ruleFires : Profile → ℕ → ℕ → List ℕ → Words → List Firing
+ruleFires p n k [] ws = []
+ruleFires p n k (c ∷ cs) [] = []
+ruleFires p n k (c ∷ cs) (w ∷ ws) = fired n k c (expanded p k w) ++ ruleFires p n k cs ws
+
+-- "In a set without an option column the first matching rule fires and the rest are passed over; with one, every matching rule fires, in file
+-- order": the rules of a set at a layout; the flag: every matching rule fires.
+unfoldable pub setFires : Bool → (Text → Words) → Profile → Heading → ℕ → List Rule → List Firing
+setFires every look p h k [] = []
+setFires every look p h k (r ∷ rs) =
+    let more = setFires every look p h k rs in
+    let now = ruleFires p (r .number) k (h .components) (rightWords h (r .text)) in
+    cond (ruleMatches look p k (h .columns) (r .text)) (now ++ cond every more []) more
+
+-- "For a range the whole set is run for each of its layouts in ascending order"
+unfoldable pub headFires : Groups → Profile → Head → List Rule → List Firing
+headFires gs p (bad k) rs = []
+headFires gs p (defines g ms) rs = []
+headFires gs p (applies h) rs =
+    concatMap (λ k. setFires (anyOf isOptions (h .columns)) (members gs) p h k rs) (layoutsOf (layoutCount p) h)
+
+unfoldable pub firings : Groups → Profile → List Section → List Firing
+firings gs p [] = []
+firings gs p (s ∷ ss) = headFires gs p (s .head) (s .rules) ++ firings (withGroup (s .head) gs) p ss
+
+unfoldable pub fileFirings : Text → Profile → List Firing
+fileFirings f p = firings [] p (sections (lines f) .1)

@@ -1,0 +1,45 @@
+use borrow.Author.Needs.{needs}
+use native.Mathlib.Omega.{arith}
+use Rattle.firing.proofs.ValueFires.{value-fired}
+use borrow.Author.Needs.{needs}
+use Rattle.firing.proofs.rule.fire_value.Statement.{statement}
+use Rattle.firing.proofs.rule.fire_value.Tie as tie
+use Rattle.firing.proofs.writing.fire.Reads as fire-reads
+use Rattle.values.proofs.fill.fill_value.Reads as fill-value-reads
+
+fill-value-requires : tie.Need-fill-value-requires
+fill-value-requires c κs = search needs
+
+sub-fire : tie.Need-sub-fire
+sub-fire c = search needs
+
+part-fire-start : tie.Need-part-fire-start
+part-fire-start c = search needs
+
+part-fire-end : tie.Need-part-fire-end
+part-fire-end c = search needs
+
+fire-requires : tie.Need-fire-requires
+fire-requires c κs = search needs
+
+same-length : tie.Need-same-length
+same-length c = search needs
+
+same-length-2 : tie.Need-same-length-2
+same-length-2 c = search needs
+
+returns : tie.Need-returns
+returns c = value-fired _ _ _ _ _ _ _ _ _ _ _ _ _ _ (c .before .before .before .before .before .before .before .before .before .before .before .before .before .before .before .before .pre .0) (c .before .before .before .before .before .before .before .before .fill-value .ensures) (c .before .before .fire .ensures)
+
+pub fire-value-spec : {M : Type 1} → statement M
+fire-value-spec =
+    tie.close
+    (tie.spec
+    fill-value-requires
+    sub-fire
+    part-fire-start
+    part-fire-end
+    fire-requires
+    same-length
+    same-length-2
+    returns)

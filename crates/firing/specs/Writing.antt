@@ -1,0 +1,72 @@
+-- Values fired into ten regions of one lent buffer, each with a position of its own: base and additions of component 0, of component 1, ..
+-- That this writes the ten texts is a law and not part of the definition.
+use Prim.Native.Nat.{ℕ, _+_, _*_, _≤_}
+use mathlib.Core.Path.{_≡_}
+use mathlib.Core.List.{List, [], _∷_}
+use mathlib.Core.Bool.{true, false, cond}
+use lib.ListN.{length, getD, set, replicate}
+use lib.Dec.{ltb}
+use Rattle.text.specs.Bytes.{Text, Words, anyOf}
+use Rattle.text.specs.Words.{tooLong}
+use Rattle.output.specs.Store.{stored, farthest, past}
+use Rattle.values.specs.Spread.{signed}
+use Rattle.firing.specs.declared.Cursors.{Cursors}
+use Rattle.profile.specs.Profile.{Profile}
+use Rattle.answers.specs.Firings.{Firing, fired, ruleFires}
+
+-- the first cursors: no base is set
+abbrev pub startingAt : List ℕ → Cursors
+startingAt ps = record { at = ps; based = replicate 5 false }
+
+-- one firing: an addition goes to its component's second region, a plain value to the first, where it has no base yet
+unfoldable pub fireCur : Cursors → Firing → Cursors
+fireCur q f =
+    let c = f .component in
+    let n = length (f .value) in
+    cond (ltb c 5)
+    (cond (signed (f .value))
+    (record { at = set (q .at) (2 * c + 1) (past (getD (q .at) (2 * c + 1) 0) n); based = q .based })
+    (cond (getD (q .based) c false) q
+    (record { at = set (q .at) (2 * c) (past (getD (q .at) (2 * c) 0) n); based = set (q .based) c true })))
+    q
+
+unfoldable pub fireBuf : Text → Cursors → Firing → Text
+fireBuf d q f =
+    let c = f .component in
+    cond (ltb c 5)
+    (cond (signed (f .value)) (stored d (getD (q .at) (2 * c + 1) 0) (f .value))
+    (cond (getD (q .based) c false) d (stored d (getD (q .at) (2 * c) 0) (f .value))))
+    d
+
+-- one after the other: the cursors after them, and the buffer
+unfoldable pub runCur : Cursors → List Firing → Cursors
+runCur q [] = q
+runCur q (f ∷ fs) = runCur (fireCur q f) fs
+
+unfoldable pub runBuf : Text → Cursors → List Firing → Text
+runBuf d q [] = d
+runBuf d q (f ∷ fs) = runBuf (fireBuf d q f) (fireCur q f) fs
+
+-- the value v of component c was fired, at whichever line and layout: buffer and cursors went from d and q to d′ and q′
+pub record FiredOne (d d′ : Text) (q q′ : Cursors) (c : ℕ) (v : Text) : Type 0 where
+  pub bytes : (l k : ℕ) → d′ ≡ runBuf d q (fired l k c v)
+  pub places : (l k : ℕ) → q′ ≡ runCur q (fired l k c v)
+
+-- no position is behind the last
+unfoldable pub Low : List ℕ → Type 0
+Low [] = Unit {0}
+Low (p ∷ ps) = (p ≤ farthest) × Low ps
+
+-- where texts of these lengths start that stand one after the other from k on
+unfoldable pub starts : ℕ → List ℕ → List ℕ
+starts k [] = []
+starts k (n ∷ ns) = k ∷ starts (k + n) ns
+
+-- no word is too long
+abbrev pub ShortWords : Words → Type 0
+ShortWords ws = anyOf tooLong ws ≡ false
+
+-- the right words ws fired for the components cs at the layout k, whatever line they stand in
+pub record FiredRule (p : Profile) (d d′ : Text) (q q′ : Cursors) (k : ℕ) (cs : List ℕ) (ws : Words) : Type 0 where
+  pub bytes : (l : ℕ) → d′ ≡ runBuf d q (ruleFires p l k cs ws)
+  pub places : (l : ℕ) → q′ ≡ runCur q (ruleFires p l k cs ws)

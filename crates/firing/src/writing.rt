@@ -1,0 +1,53 @@
+// Values fired into ten regions of one lent buffer, through ten cursors.
+ghost use mathlib.Core.Path.{_≡_};
+ghost use Prim.Native.Nat.{_≤_, _<_};
+ghost use lib.ListN.{length};
+ghost use Rattle.text.specs.Bytes.{concatMap};
+ghost use Rattle.output.specs.Store.{farthest};
+ghost use Rattle.values.specs.Spread.{cuts, spread};
+ghost use Rattle.answers.specs.Answer.{sum};
+ghost use Rattle.firing.specs.Writing.{FiredOne, Low, starts};
+use super::Cursors;
+use super::Sums;
+use values::spread::is_signed;
+use values::spread::put_spread;
+
+// A value of a component fires: `t` is its text with the profile's values put in, `n` the number of layouts.
+pub fn fire(t: &[u8], n: usize, component: usize, buf: &mut [u8], q: Cursors) -> Cursors
+    requires { ⌜ (1 ≤ n) × (n < 100) × (length (now buf) ≤ farthest) × Low (q .at) ⌝ }
+    ensures { λ r. ⌜ FiredOne (now (buf .entry)) (now (buf .exit)) q r component (concatMap (spread n) (cuts (now (t .entry)))) ⌝ }
+{
+    if 4 < component {
+        return q;
+    }
+    if t.len() == 0 {
+        return q;
+    }
+    let mut next = q;
+    if is_signed(t) {
+        next.at[2 * component + 1] = put_spread(t, n, buf, q.at[2 * component + 1]);
+        return next;
+    }
+    if q.based[component] {
+        return q;
+    }
+    next.at[2 * component] = put_spread(t, n, buf, q.at[2 * component]);
+    next.based[component] = true;
+    next
+}
+
+// Where each of ten texts of these lengths starts, and where the last ends.
+pub fn places(lengths: [u32; 10]) -> Sums
+    requires { ⌜ Low lengths ⌝ }
+    ensures { λ r. ⌜ (r .at ≡ starts 0 lengths) × (r .total ≡ sum lengths) ⌝ }
+{
+    let mut at: [u32; 10] = [0; 10];
+    let mut total: u32 = 0;
+    let mut i: usize = 0;
+    while i < 10 {
+        at[i] = total;
+        total += lengths[i];
+        i += 1;
+    }
+    Sums { at, total }
+}
