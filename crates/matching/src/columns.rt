@@ -21,7 +21,7 @@ use rules::words::has_dollar;
 use rules::words::is_star;
 use text::Next;
 use text::compare::same;
-use text::reader::next_word;
+use text::reader::word_at;
 
 // A `$` word by question j, any other by the value.
 fn word_matches(
@@ -175,7 +175,7 @@ pub fn left_word(
         (profileOf (textsOf (now (model .entry)) (now (layouts .entry)) (now (variants .entry)) (now (options .entry))))
         k (columnBy c) (now (s .entry)) from line r ⌝ }
 {
-    match next_word(s, t, fence, from, line) {
+    match word_at(s, t, fence, from, line) {
         Next::Found {
             start,
             end,

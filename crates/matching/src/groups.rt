@@ -14,7 +14,7 @@ use profile::fields::field;
 use profile::table::has_option;
 use text::Next;
 use text::compare::same;
-use text::reader::next_word;
+use text::reader::word_at;
 
 // Question j of the group of this name; no, if there is none.
 pub fn group_asked(
@@ -122,7 +122,7 @@ fn mark_words(
     let mut i = at;
     let mut l = line;
     loop {
-        match next_word(s, t, fence, i, l) {
+        match word_at(s, t, fence, i, l) {
             Next::Found {
                 start,
                 end,
@@ -188,7 +188,7 @@ pub fn fill_row(
         (now (rows .entry)) (now (rows .exit)) g ⌝ }
 {
     clear_row(rows, g);
-    match next_word(s, t, fence, at, 0) {
+    match word_at(s, t, fence, at, 0) {
         Next::Found {
             start: _,
             end,

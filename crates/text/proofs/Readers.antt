@@ -4,7 +4,7 @@ use native.Mathlib.Nat.{add-zero}
 use native.Mathlib.Omega.{arith}
 use mathlib.Core.Path.{_≡_, refl, sym, ap, _∙_}
 use mathlib.Core.List.{List, [], _∷_, _++_}
-use mathlib.Core.Bool.{Bool, true, false, not, _||_, cond}
+use mathlib.Core.Bool.{Bool, true, false, not, _||_, _&&_, cond}
 use borrow.Author.Tests.{ne-eqb, eq-eqb, eqb-true, eqb-false, ltb-true, ltb-false, lt-ltb, le-ltb}
 use lib.Dec.{eqb, ltb}
 use lib.ListN.{length, getD, drop, drop-of-length-le}
@@ -21,7 +21,7 @@ use Rattle.text.specs.Marks.{classOf, Mark, char, gap, join, bang, end, 
 use Rattle.text.specs.Lines.{run, words, heading, Line, feeds, inside, linesOf, lines}
 use Rattle.text.specs.Words.{badByte, tooLong, wordsFault}
 use Rattle.text.specs.Reading.{left, wordly, inWord, ahead, follow, faultOf, lower, kindOf, Table, Fenced, Within, WordEnd, InWord, PlainEnd, OddWord, CommentEnd, Blanks, Skipped, FoundWord, NoWord, Between, FastWord, NextWord, Opens}
-use Rattle.text.proofs.Lists.{no}
+use Rattle.text.proofs.Lists.{no, and-both}
 use Rattle.text.proofs.Positions.{first-drop, part-empty, part-cons, part-snoc, in-word-start, in-word-more, in-word-over, marks-at, step-other, step-feed, comment-words, first-in, any-cons, any-nil, length-part, lines-char, lines-gap, lines-bang, lines-join, lines-end, lines-nil}
 use Rattle.text.proofs.ByteKinds.{Plain, not-bad, plain-in-word, kind-one, kind-stop, Begins, begins-char, kind-zero, join-class, note-class, bang-class, differ}
 
@@ -575,3 +575,13 @@ made-end s i n r p m q h = rw q at h
 
 pub made-rest : (s : List ℕ) (i n : ℕ) (r : Fast) (p m : ℕ) → r ≡ fast.Rest p m → FastWord s i n r → Between s i n p m
 made-rest s i n r p m q h = rw q at h
+
+-- two bytes, side by side
+pub pair-yes : (r : Bool) (b c k m : ℕ) → r ≡ (eqb b k && eqb c m) → r ≡ true → (b ≡ k) × (c ≡ m)
+pair-yes r b c k m e h = let w = and-both (eqb b k) (eqb c m) (sym e ∙ h) in (eqb-true b k (w .0), eqb-true c m (w .1))
+
+pub pair-no : (r : Bool) (b c k m : ℕ) → r ≡ (eqb b k && eqb c m) → r ≡ false → b ≡ k → c ≡ m → ⊥
+pair-no r b c k m e h p q = no (sym (sym e ∙ h) ∙ rw (eq-eqb b k p, eq-eqb c m q) refl)
+
+pub pair-joins : (s : List ℕ) (i : ℕ) (r : Bool) → r ≡ (eqb (getD s i 0) 92 && eqb (first (drop (i + 1) s)) 10) → r ≡ true → i + 2 ≤ length s
+pair-joins s i r e h = join-in s i (pair-yes r (getD s i 0) (first (drop (i + 1) s)) 92 10 e h .1)

@@ -1,8 +1,10 @@
 // The reader of lines and words over the file, with cursors.
 ghost use mathlib.Core.Path.{_≡_};
 ghost use Prim.Native.Nat.{_+_, _≤_, _<_};
-ghost use lib.ListN.{length};
-ghost use Rattle.text.specs.Bytes.{part, anyOf};
+ghost use mathlib.Core.Bool.{_&&_};
+ghost use lib.Dec.{eqb};
+ghost use lib.ListN.{length, getD, drop};
+ghost use Rattle.text.specs.Bytes.{first, part, anyOf};
 ghost use Rattle.text.specs.Words.{badByte};
 ghost use Rattle.text.specs.Reading.{WordEnd, PlainEnd, Skipped, OddWord, CommentEnd, FastWord, NextWord, FirstFeed, Passed, Opens, Table, Fenced, Within};
 use super::Fast;
@@ -139,6 +141,17 @@ pub fn comment_end(s: &[u8], from: usize) -> usize
     i
 }
 
+// Whether the bytes at i and behind it are a and b.
+fn is_pair(s: &[u8], i: usize, a: u8, b: u8) -> bool
+    requires { ⌜ i < length (now s) ⌝ }
+    ensures { λ r. ⌜ r ≡ (eqb (getD (now (s .entry)) i 0) a && eqb (first (drop (i + 1) (now (s .entry)))) b) ⌝ }
+{
+    if s[i] != a {
+        return false;
+    }
+    peek(s, i + 1) == b
+}
+
 pub fn next_slow(s: &[u8], t: &[u8; 512], from: usize, line: usize) -> Next
     requires { ⌜ (from ≤ length (now s)) × ((line ≤ from + 1) × Table (now t)) ⌝ }
     ensures { λ r. ⌜ NextWord (now (s .entry)) from line r ⌝ }
@@ -146,19 +159,19 @@ pub fn next_slow(s: &[u8], t: &[u8; 512], from: usize, line: usize) -> Next
     let mut i = skip(s, t, from);
     let mut l = line;
     while i < s.len() {
-        let b = s[i];
-        if b == 10 {
+        if s[i] == 10 {
             return Next::Stop {
                 next: i + 1,
                 line: l + 1,
             };
         }
-        if b == 92 {
-            if peek(s, i + 1) == 10 {
-                l += 1;
-                i = skip(s, t, i + 2);
-                continue;
-            }
+        if is_pair(s, i, 47, 47) {
+            return Next::Stop {
+                next: comment_end(s, i + 1),
+                line: l + 1,
+            };
+        }
+        if !is_pair(s, i, 92, 10) {
             let w = odd_word(s, i);
             return Next::Found {
                 start: i,
@@ -167,28 +180,8 @@ pub fn next_slow(s: &[u8], t: &[u8; 512], from: usize, line: usize) -> Next
                 fault: w.fault,
             };
         }
-        if b == 47 {
-            if peek(s, i + 1) == 47 {
-                return Next::Stop {
-                    next: comment_end(s, i + 1),
-                    line: l + 1,
-                };
-            }
-            let w = odd_word(s, i);
-            return Next::Found {
-                start: i,
-                end: w.end,
-                line: l,
-                fault: w.fault,
-            };
-        }
-        let w = odd_word(s, i);
-        return Next::Found {
-            start: i,
-            end: w.end,
-            line: l,
-            fault: w.fault,
-        };
+        l += 1;
+        i = skip(s, t, i + 2);
     }
     Next::Stop { next: i, line: l }
 }
@@ -248,6 +241,33 @@ pub fn next_word(s: &[u8], t: &[u8; 512], fence: usize, from: usize, line: usize
         },
         Fast::End { next, line } => Next::Stop { next, line },
         Fast::Rest { at, line } => next_slow(s, t, at, line),
+    }
+}
+
+// The same as `next_word`, smaller: it is called where words are few. The compiler takes `next_word` into the one loop that calls it.
+pub fn word_at(s: &[u8], t: &[u8; 512], fence: usize, from: usize, line: usize) -> Next
+    requires { ⌜ Within (now s) (now t) fence from line ⌝ }
+    ensures { λ r. ⌜ NextWord (now (s .entry)) from line r ⌝ }
+{
+    if fence <= from {
+        return next_slow(s, t, from, line);
+    }
+    let i = skip_fast(s, t, fence, from);
+    if kind(t, s[i]) != 0 {
+        return next_slow(s, t, from, line);
+    }
+    let p = plain_end(s, t, fence, i + 1);
+    if 2 < kind(t, s[p]) {
+        return next_slow(s, t, from, line);
+    }
+    if i + 256 < p {
+        return next_slow(s, t, from, line);
+    }
+    Next::Found {
+        start: i,
+        end: p,
+        line,
+        fault: 0,
     }
 }
 
@@ -321,7 +341,7 @@ fn pass_words(s: &[u8], t: &[u8; 512], fence: usize, from: usize, line: usize) -
     let mut i = from;
     let mut l = line;
     loop {
-        match next_word(s, t, fence, i, l) {
+        match word_at(s, t, fence, i, l) {
             Next::Found {
                 start: _,
                 end,

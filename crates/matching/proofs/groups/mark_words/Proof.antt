@@ -10,7 +10,7 @@ use Rattle.matching.proofs.Filling.{WordsOn, words-start, words-more, w
 use Rattle.matching.proofs.groups.mark_words.Statement.{statement}
 use Rattle.matching.proofs.groups.mark_words.Tie as tie
 use Rattle.matching.proofs.groups.mark_word.Reads as mark-word-reads
-use Rattle.text.proofs.reader.next_word.Reads as next-word-reads
+use Rattle.text.proofs.reader.word_at.Reads as word-at-reads
 
 abbrev Inv-loop : tie.InvT-loop
 Inv-loop s t fence at line model layouts variants options table count rows₀ g i₀ l₀ rows i l = WordsOn s at (textsOf model layouts variants options) rows₀ rows g i l
@@ -21,36 +21,36 @@ abbrev μ-loop : tie.MeasureT-loop
 loop-holds : tie.Need-loop-holds Inv-loop μ-loop
 loop-holds c = words-start _ _ _ _ _ _ (c .before .before .before .before .before .pre .0 .high) (c .before .before .before .before .before .pre .0 .few) (c .before .before .before .before .before .pre .4)
 
-next-word-requires : tie.Need-next-word-requires Inv-loop μ-loop
-next-word-requires c κs = record { high = c .loop .inv .high; few = c .loop .inv .few; table = c .before .before .before .before .before .before .pre .0 .table; fenced = c .before .before .before .before .before .before .pre .0 .fenced }
+word-at-requires : tie.Need-word-at-requires Inv-loop μ-loop
+word-at-requires c κs = record { high = c .loop .inv .high; few = c .loop .inv .few; table = c .before .before .before .before .before .before .pre .0 .table; fenced = c .before .before .before .before .before .before .pre .0 .fenced }
 
 enum-known-start : tie.Need-enum-known-start Inv-loop μ-loop
 enum-known-start c = search needs
 
 sub-mark-word : tie.Need-sub-mark-word Inv-loop μ-loop
-sub-mark-word c = let u = found _ _ _ _ _ _ _ _ (c .before .start .given .1) (c .before .before .before .next-word .ensures) in omega (arith, u .some)
+sub-mark-word c = let u = found _ _ _ _ _ _ _ _ (c .before .start .given .1) (c .before .before .before .word-at .ensures) in omega (arith, u .some)
 
 part-mark-word-start : tie.Need-part-mark-word-start Inv-loop μ-loop
-part-mark-word-start c = let u = found _ _ _ _ _ _ _ _ (c .before .start .given .1) (c .before .before .before .next-word .ensures) in omega (arith, u .some)
+part-mark-word-start c = let u = found _ _ _ _ _ _ _ _ (c .before .start .given .1) (c .before .before .before .word-at .ensures) in omega (arith, u .some)
 
 part-mark-word-end : tie.Need-part-mark-word-end Inv-loop μ-loop
-part-mark-word-end c = let u = found _ _ _ _ _ _ _ _ (c .before .start .given .1) (c .before .before .before .next-word .ensures) in u .high
+part-mark-word-end c = let u = found _ _ _ _ _ _ _ _ (c .before .start .given .1) (c .before .before .before .word-at .ensures) in u .high
 
 mark-word-requires : tie.Need-mark-word-requires Inv-loop μ-loop
 mark-word-requires c κs = (c .before .before .before .before .before .before .before .before .before .before .before .before .pre .1, c .before .before .before .before .before .before .before .before .before .before .before .before .pre .2, c .before .before .before .before .before .before .before .before .before .before .before .before .pre .3, c .before .before .before .before .before .before .loop .inv .size)
 
 loop-less : tie.Need-loop-less Inv-loop μ-loop
-loop-less c = let u = found _ _ _ _ _ _ _ _ (c .before .before .before .before .start .given .1) (c .before .before .before .before .before .before .next-word .ensures) in omega (arith, u .low, u .some, u .high)
+loop-less c = let u = found _ _ _ _ _ _ _ _ (c .before .before .before .before .start .given .1) (c .before .before .before .before .before .before .word-at .ensures) in omega (arith, u .low, u .some, u .high)
 
 loop-again : tie.Need-loop-again Inv-loop μ-loop
 unfolding part
-loop-again c = words-more _ _ _ _ _ _ _ _ (c .before .before .before .before .before .before .before .loop .inv) _ _ _ _ _ (found _ _ _ _ _ _ _ _ (c .before .before .before .before .start .given .1) (c .before .before .before .before .before .before .next-word .ensures)) (c .mark-word .ensures)
+loop-again c = words-more _ _ _ _ _ _ _ _ (c .before .before .before .before .before .before .before .loop .inv) _ _ _ _ _ (found _ _ _ _ _ _ _ _ (c .before .before .before .before .start .given .1) (c .before .before .before .before .before .before .word-at .ensures)) (c .mark-word .ensures)
 
 enum-told : tie.Need-enum-told Inv-loop μ-loop
 enum-told c = search needs
 
 returns : tie.Need-returns Inv-loop μ-loop
-returns c = words-end _ _ _ _ _ _ _ _ (c .before .before .before .loop .inv) _ _ (stopped _ _ _ _ _ _ (c .enum-told .given .1) (c .before .before .next-word .ensures))
+returns c = words-end _ _ _ _ _ _ _ _ (c .before .before .before .loop .inv) _ _ (stopped _ _ _ _ _ _ (c .enum-told .given .1) (c .before .before .word-at .ensures))
 
 pub mark-words-spec : {M : Type 1} → statement M
 mark-words-spec =
@@ -59,7 +59,7 @@ mark-words-spec =
     Inv-loop
     μ-loop
     loop-holds
-    next-word-requires
+    word-at-requires
     enum-known-start
     sub-mark-word
     part-mark-word-start

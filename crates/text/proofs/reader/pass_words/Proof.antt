@@ -16,23 +16,23 @@ abbrev μ-loop : tie.MeasureT-loop
 loop-holds : tie.Need-loop-holds Inv-loop μ-loop
 loop-holds c = passing-start _ _ _ (c .before .pre .high) (c .before .pre .few)
 
-next-word-requires : tie.Need-next-word-requires Inv-loop μ-loop
-next-word-requires c κs = record { high = c .loop .inv .high; few = c .loop .inv .few; table = c .before .before .pre .table; fenced = c .before .before .pre .fenced }
+word-at-requires : tie.Need-word-at-requires Inv-loop μ-loop
+word-at-requires c κs = record { high = c .loop .inv .high; few = c .loop .inv .few; table = c .before .before .pre .table; fenced = c .before .before .pre .fenced }
 
 enum-known-end : tie.Need-enum-known-end Inv-loop μ-loop
 enum-known-end c = search needs
 
 loop-less : tie.Need-loop-less Inv-loop μ-loop
-loop-less c = let u = found _ _ _ _ _ _ _ _ (c .before .end .given .1) (c .before .before .before .next-word .ensures) in omega (arith, u .low, u .some, u .high)
+loop-less c = let u = found _ _ _ _ _ _ _ _ (c .before .end .given .1) (c .before .before .before .word-at .ensures) in omega (arith, u .low, u .some, u .high)
 
 loop-again : tie.Need-loop-again Inv-loop μ-loop
-loop-again c = passing-word _ _ _ _ _ (c .before .before .before .before .loop .inv) _ _ _ _ (found _ _ _ _ _ _ _ _ (c .before .end .given .1) (c .before .before .before .next-word .ensures))
+loop-again c = passing-word _ _ _ _ _ (c .before .before .before .before .loop .inv) _ _ _ _ (found _ _ _ _ _ _ _ _ (c .before .end .given .1) (c .before .before .before .word-at .ensures))
 
 enum-known-next : tie.Need-enum-known-next Inv-loop μ-loop
 enum-known-next c = search needs
 
 returns : tie.Need-returns Inv-loop μ-loop
-returns c = passing-stop _ _ _ _ _ (c .before .before .before .before .loop .inv) _ _ (stopped _ _ _ _ _ _ (c .before .next .given .1) (c .before .before .before .next-word .ensures))
+returns c = passing-stop _ _ _ _ _ (c .before .before .before .before .loop .inv) _ _ (stopped _ _ _ _ _ _ (c .before .next .given .1) (c .before .before .before .word-at .ensures))
 
 pub pass-words-spec : {M : Type 1} → statement M
 pass-words-spec =
@@ -41,7 +41,7 @@ pass-words-spec =
     Inv-loop
     μ-loop
     loop-holds
-    next-word-requires
+    word-at-requires
     enum-known-end
     loop-less
     loop-again
