@@ -1,19 +1,25 @@
 -- A group's row, filled word by word.
 use Prim.Native.Nat.{ℕ, zero, suc, _+_, _*_, _-_, _≤_, _<_}
+use native.Mathlib.Nat.{zero-add, add-zero}
 use native.Mathlib.Omega.{arith}
 use mathlib.Core.Path.{_≡_, refl, sym, ap, _∙_}
 use mathlib.Core.List.{List, [], _∷_}
 use mathlib.Core.Bool.{Bool, true, false, _||_, cond, or-assoc}
-use lib.ListN.{length, getD, set, drop, length-set}
+use mathlib.Core.Logic.{_⊎_, inl, inr, ⊎-elim}
+use lib.ListN.{length, getD, set, drop, length-set, drop-of-length-le}
 use lib.Seq.{getD-set-same, getD-set-other}
 use lib.Dec.{eqb, leb, ltb}
-use borrow.Author.Tests.{ne-eqb, eq-eqb, eqb-true, le-leb, lt-leb, ltb-true, ltb-false}
+use borrow.Author.Tests.{ne-eqb, eq-eqb, eqb-false, le-leb, lt-leb, ltb-true, ltb-false}
 use Rattle.text.specs.Bytes.{Text, Words, same, anyOf, part}
 use Rattle.text.specs.Reading.{left, FoundWord, NoWord}
 use Rattle.text.proofs.Lists.{both-ways, same-eq}
+use Rattle.text.proofs.Comparing.{drop-at}
+use Rattle.text.proofs.Positions.{length-part}
+use Rattle.profile.specs.Splitting.{behind, FieldEnd}
+use Rattle.profile.proofs.Splitting.{behind-nil, behind-cons, getD-nil}
 use Rattle.profile.specs.Profile.{Texts, Profile, profileOf, fields, optionsOf}
 use Rattle.matching.specs.Groups.{asked, Rowed}
-use Rattle.matching.specs.Rows.{Marked, Cleared, RowFilled}
+use Rattle.matching.specs.Rows.{FieldsMarked, Marked, Cleared, RowFilled}
 use Rattle.matching.proofs.GroupRows.{asked-none}
 use Rattle.matching.proofs.Matches.{any-alike, option-never}
 
@@ -153,17 +159,136 @@ module _ (rows : List Bool) (g : ℕ) where
     pub clearing-end : 10 ≤ j → Cleared rows rows′ g
     clearing-end h = record { size = v .size; old = v .old; new = λ i l. v .done i (omega arith) }
 
--- the loop of `mark_word`
+or-yes : (a : Bool) → true ≡ (a || true)
+or-yes true = refl
+or-yes false = refl
+
+-- a word held against the fields of a text
+
+none-same : (w : Text) → 1 ≤ length w → same [] w ≡ false
+unfolding same
+none-same [] h = absurd (omega arith)
+none-same (b ∷ w) h = refl
+
+-- the loop of `mark_fields`: the field of number j begins at `start`
+pub record FieldsOn (s w : Text) (rows rows′ : List Bool) (g b start j : ℕ) : Type 0 where
+  pub size : length rows′ ≡ 640
+  pub high : start ≤ length s
+  pub rest : (m : ℕ) → getD (fields s) (j + m) [] ≡ getD (fields (drop start s)) m []
+  pub old : (i : ℕ) → i < 10 * g → getD rows′ i false ≡ getD rows i false
+  pub done : (i : ℕ) → i < j → getD rows′ (10 * g + (b + i)) false ≡ (getD rows (10 * g + (b + i)) false || same (getD (fields s) i []) w)
+  pub other : (i : ℕ) → (i < b) ⊎ (b + j ≤ i) → getD rows′ (10 * g + i) false ≡ getD rows (10 * g + i) false
+
+either-way : {C : Type 0} (i j : ℕ) → (i < j → C) → (j ≤ i → C) → C
+either-way {C = C} i j f h = go (ltb i j) refl
+  where
+    go : (t : Bool) → ltb i j ≡ t → C
+    go true e = f (ltb-true i j e)
+    go false e = h (ltb-false i j e)
+
+module _ (s w : Text) (rows : List Bool) (g b : ℕ) where
+  pub fields-start : length rows ≡ 640 → FieldsOn s w rows rows g b 0 0
+  fields-start z =
+      record {
+        size = z;
+        high = omega arith;
+        rest = λ m. rw (zero-add m) refl;
+        old = λ i l. refl;
+        done = λ i l. absurd (omega arith);
+        other = λ i l. refl;
+      }
+
+  module _ (start j : ℕ) (rows₁ : List Bool) (v : FieldsOn s w rows rows₁ g b start j) (e : ℕ) (f : FieldEnd s start e) where
+    here : getD (fields s) j [] ≡ part s start e
+    here = ap (λ (k : ℕ). getD (fields s) k []) (sym (add-zero j)) ∙ (v .rest 0 ∙ rw (f .split) refl)
+
+    later : (m : ℕ) → getD (fields s) (j + 1 + m) [] ≡ getD (behind (drop e s)) m []
+    later m = let z : j + 1 + m ≡ j + suc m = omega arith in rw z (v .rest (suc m) ∙ rw (f .split) refl)
+
+    -- the question of this field, answered in the row
+    pub record FieldAnswered (rows₂ : List Bool) : Type 0 where
+      pub size : length rows₂ ≡ 640
+      pub old : (i : ℕ) → i < 10 * g → getD rows₂ i false ≡ getD rows₁ i false
+      pub this : getD rows₂ (10 * g + (b + j)) false ≡ (getD rows₁ (10 * g + (b + j)) false || same (part s start e) w)
+      pub other : (i : ℕ) → (i ≡ b + j → ⊥) → getD rows₂ (10 * g + i) false ≡ getD rows₁ (10 * g + i) false
+
+    answer-yes : g < 64 → b + j < 10 → same (part s start e) w ≡ true → FieldAnswered (set rows₁ (10 * g + (b + j)) true)
+    answer-yes h l t =
+        record {
+          size = put-size rows₁ g (b + j) true (v .size);
+          old = λ i m. put-before rows₁ g (b + j) true i m;
+          this = put-here rows₁ g (b + j) true (v .size) h l ∙ rw t (or-yes (getD rows₁ (10 * g + (b + j)) false));
+          other = λ i n. put-other rows₁ g (b + j) true i n;
+        }
+
+    answer-no : same (part s start e) w ≡ false → FieldAnswered rows₁
+    answer-no t = record { size = v .size; old = λ i m. refl; this = rw t (or-none (getD rows₁ (10 * g + (b + j)) false)); other = λ i n. refl }
+
+    pub answered : g < 64 → b + j < 10 → (rows₂ : List Bool) →
+        ((same (part s start e) w ≡ true) × (rows₂ ≡ set rows₁ (10 * g + (b + j)) true)) ⊎ ((same (part s start e) w ≡ false) × (rows₂ ≡ rows₁)) → FieldAnswered rows₂
+    answered h l rows₂ =
+        ⊎-elim
+        (λ (z : (same (part s start e) w ≡ true) × (rows₂ ≡ set rows₁ (10 * g + (b + j)) true)). rw (z .1) (answer-yes h l (z .0)))
+        (λ (z : (same (part s start e) w ≡ false) × (rows₂ ≡ rows₁)). rw (z .1) (answer-no (z .0)))
+
+    module _ (rows₂ : List Bool) (a : FieldAnswered rows₂) where
+      done-more : (i : ℕ) → i < j + 1 → getD rows₂ (10 * g + (b + i)) false ≡ (getD rows (10 * g + (b + i)) false || same (getD (fields s) i []) w)
+      done-more i l =
+          either-way i j
+          (λ (k : i < j). a .other (b + i) (λ (z : b + i ≡ b + j). omega arith) ∙ v .done i k)
+          (λ (k : j ≤ i). let z : i ≡ j = omega arith in rw (z, here) (a .this ∙ ap (λ (x : Bool). x || same (part s start e) w) (v .other (b + j) (inr (omega arith)))))
+
+      other-more : (i : ℕ) → (i < b) ⊎ (b + (j + 1) ≤ i) → getD rows₂ (10 * g + i) false ≡ getD rows (10 * g + i) false
+      other-more i o =
+          ⊎-elim
+          (λ (k : i < b). a .other i (λ (z : i ≡ b + j). omega arith) ∙ v .other i (inl k))
+          (λ (k : b + (j + 1) ≤ i). a .other i (λ (z : i ≡ b + j). omega arith) ∙ v .other i (inr (omega arith)))
+          o
+
+      pub fields-more : e < length s → FieldsOn s w rows rows₂ g b (e + 1) (j + 1)
+      fields-more h =
+          record {
+            size = a .size;
+            high = omega arith;
+            rest = λ m. later m ∙ rw (drop-at s e h, behind-cons) refl;
+            old = λ i m. a .old i m ∙ v .old i m;
+            done = done-more;
+            other = other-more;
+          }
+
+      -- the text ends: the fields behind are empty, and no word is
+      pub fields-over : 1 ≤ length w → j < 4 → length s ≤ e → FieldsMarked s w rows rows₂ g b
+      fields-over n l h =
+          record {
+            size = a .size;
+            old = λ i m. a .old i m ∙ v .old i m;
+            new = λ i m. either-way i (j + 1) (done-more i) (λ (k : j + 1 ≤ i). behind-none i k);
+            other = λ i o. other-more i (⊎-elim (λ (k : i < b). inl k) (λ (k : b + 4 ≤ i). inr (omega arith)) o);
+          }
+        where
+          behind-none : (i : ℕ) → j + 1 ≤ i → getD rows₂ (10 * g + (b + i)) false ≡ (getD rows (10 * g + (b + i)) false || same (getD (fields s) i []) w)
+          behind-none i k =
+              let z : j + 1 + (i - (j + 1)) ≡ i = omega arith in
+              let y₀ : getD (behind (drop e s)) (i - (j + 1)) [] ≡ [] = rw (drop-of-length-le s h, behind-nil) (getD-nil (i - (j + 1))) in
+              let y : getD (fields s) i [] ≡ [] = rw z at (later (i - (j + 1)) ∙ y₀) in
+              rw (y, none-same w n) (other-more (b + i) (inr (omega arith)) ∙ or-none (getD rows (10 * g + (b + i)) false))
+
+  pub fields-end : (start j : ℕ) (rows₁ : List Bool) → 4 ≤ j → FieldsOn s w rows rows₁ g b start j → j ≤ 4 → FieldsMarked s w rows rows₁ g b
+  fields-end start j rows₁ h v l =
+      record {
+        size = v .size;
+        old = v .old;
+        new = λ i m. v .done i (omega arith);
+        other = λ i o. v .other i (⊎-elim (λ (k : i < b). inl k) (λ (k : b + 4 ≤ i). inr (omega arith)) o);
+      }
+
+-- the questions of one word, those below j answered
 pub record Marking (p : Profile) (ms : Words) (rows rows′ : List Bool) (g j : ℕ) : Type 0 where
   pub size : length rows′ ≡ 640
   pub high : j ≤ 10
   pub old : (i : ℕ) → i < 10 * g → getD rows′ i false ≡ getD rows i false
   pub done : (i : ℕ) → i < j → getD rows′ (10 * g + i) false ≡ (getD rows (10 * g + i) false || asked p i ms)
   pub rest : (i : ℕ) → j ≤ i → getD rows′ (10 * g + i) false ≡ getD rows (10 * g + i) false
-
-or-yes : (a : Bool) → true ≡ (a || true)
-or-yes true = refl
-or-yes false = refl
 
 module _ (p : Profile) (ms : Words) (rows : List Bool) (g : ℕ) where
   pub marking-start : length rows ≡ 640 → Marking p ms rows rows g 0
@@ -201,6 +326,55 @@ module _ (p : Profile) (ms : Words) (rows : List Bool) (g : ℕ) where
     pub marking-end : 10 ≤ j → Marked p ms rows rows′ g
     marking-end h = record { size = v .size; old = v .old; new = λ i l. v .done i (omega arith) }
 
+-- the first question, of the model
+pub marking-model : (x : Texts) (w : Text) (rows rows₁ : List Bool) (g : ℕ) → length rows ≡ 640 → g < 64 →
+    ((same (x .model) w ≡ true) × (rows₁ ≡ set rows (10 * g) true)) ⊎ ((same (x .model) w ≡ false) × (rows₁ ≡ rows)) →
+    Marking (profileOf x) (w ∷ []) rows rows₁ g 1
+marking-model x w rows rows₁ g z h =
+    ⊎-elim
+    (λ (c : (same (x .model) w ≡ true) × (rows₁ ≡ set rows (10 * g) true)).
+    let o : 10 * g + 0 ≡ 10 * g = omega arith in
+    rw (c .1) (rw o at (marking-yes (profileOf x) (w ∷ []) rows g rows 0 (marking-start (profileOf x) (w ∷ []) rows g z) h (omega arith) (sym (ask-model x w 0 refl) ∙ c .0))))
+    (λ (c : (same (x .model) w ≡ false) × (rows₁ ≡ rows)).
+    rw (c .1) (marking-no (profileOf x) (w ∷ []) rows g rows 0 (marking-start (profileOf x) (w ∷ []) rows g z) (omega arith) (sym (ask-model x w 0 refl) ∙ c .0)))
+
+-- the last question, of the options
+module _ (x : Texts) (w : Text) (rows r : List Bool) (g : ℕ) (v : Marking (profileOf x) (w ∷ []) rows r g 9) where
+  last : anyOf (same w) (optionsOf (x .options)) ≡ asked (profileOf x) 9 (w ∷ [])
+  last = ask-option x w 9 (λ (e : _≡_ {A = ℕ} 9 0). eqb-false 9 0 refl e) (omega arith) (omega arith)
+
+  pub marked-yes : g < 64 → anyOf (same w) (optionsOf (x .options)) ≡ true → Marked (profileOf x) (w ∷ []) rows (set r (10 * g + 9) true) g
+  marked-yes h a =
+      marking-end (profileOf x) (w ∷ []) rows g _ 10 (marking-yes (profileOf x) (w ∷ []) rows g r 9 v h (omega arith) (sym last ∙ a)) (omega arith)
+
+  pub marked-no : anyOf (same w) (optionsOf (x .options)) ≡ false → Marked (profileOf x) (w ∷ []) rows r g
+  marked-no a = marking-end (profileOf x) (w ∷ []) rows g r 10 (marking-no (profileOf x) (w ∷ []) rows g r 9 v (omega arith) (sym last ∙ a)) (omega arith)
+
+-- four questions more, by the fields of the layouts or of the variants
+module _ (x : Texts) (w : Text) (rows : List Bool) (g : ℕ) (s : Text) (b : ℕ)
+    (ask : (i : ℕ) → b ≤ i → i < b + 4 → same (getD (fields s) (i - b) []) w ≡ asked (profileOf x) i (w ∷ [])) where
+  pub marking-fields : (r₁ r₂ : List Bool) → b ≤ 6 → Marking (profileOf x) (w ∷ []) rows r₁ g b → FieldsMarked s w r₁ r₂ g b → Marking (profileOf x) (w ∷ []) rows r₂ g (b + 4)
+  marking-fields r₁ r₂ few v u =
+      record {
+        size = u .size;
+        high = omega arith;
+        old = λ i l. u .old i l ∙ v .old i l;
+        done = λ i l. either-way i b (λ (k : i < b). u .other i (inl k) ∙ v .done i k) (λ (k : b ≤ i). this i k l);
+        rest = λ i l. u .other i (inr l) ∙ v .rest i (omega arith);
+      }
+    where
+      this : (i : ℕ) → b ≤ i → i < b + 4 → getD r₂ (10 * g + i) false ≡ (getD rows (10 * g + i) false || asked (profileOf x) i (w ∷ []))
+      this i k l =
+          let z : b + (i - b) ≡ i = omega arith in
+          let y = rw z at (u .new (i - b) (omega arith)) in
+          y ∙ rw (ask i k l, v .rest i k) refl
+
+pub ask-layouts : (x : Texts) (w : Text) (i : ℕ) → 1 ≤ i → i < 5 → same (getD (fields (x .layouts)) (i - 1) []) w ≡ asked (profileOf x) i (w ∷ [])
+ask-layouts x w i h l = ask-layout x w i (λ (e : i ≡ 0). omega arith) (omega arith) _ refl
+
+pub ask-variants : (x : Texts) (w : Text) (i : ℕ) → 5 ≤ i → i < 9 → same (getD (fields (x .variants)) (i - 5) []) w ≡ asked (profileOf x) i (w ∷ [])
+ask-variants x w i h l = ask-variant x w i (λ (e : i ≡ 0). omega arith) (omega arith) (omega arith) _ refl
+
 -- words one after the other
 
 marked-none : (x : Texts) (rows : List Bool) (g : ℕ) → length rows ≡ 640 → Marked (profileOf x) [] rows rows g
@@ -220,6 +394,9 @@ marked-then x w ms r₀ r₁ r₂ g u v =
           ∙ (or-assoc (getD r₀ (10 * g + j) false) (asked (profileOf x) j (w ∷ [])) (asked (profileOf x) j ms)
           ∙ ap (λ (b : Bool). getD r₀ (10 * g + j) false || b) (sym (asked-more x j w ms))));
     }
+
+pub found-some : (s : Text) (i l a e m f : ℕ) → FoundWord s i l a e m f → 1 ≤ length (part s a e)
+found-some s i l a e m f u = omega (arith, length-part s a e (u .high), u .some)
 
 -- the loop of `mark_words`: what comes of the words from i on comes of all
 pub record WordsOn (s : Text) (at : ℕ) (x : Texts) (rows rows′ : List Bool) (g i l : ℕ) : Type 0 where

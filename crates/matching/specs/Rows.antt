@@ -1,13 +1,14 @@
 -- What the readers and the writer of the groups' rows promise.
-use Prim.Native.Nat.{ℕ, _+_, _*_, _-_, _<_}
+use Prim.Native.Nat.{ℕ, _+_, _*_, _-_, _≤_, _<_}
 use mathlib.Core.Path.{_≡_}
 use mathlib.Core.List.{List, [], _∷_}
 use mathlib.Core.Bool.{Bool, true, false, not, _||_, cond}
+use mathlib.Core.Logic.{_⊎_}
 use lib.Dec.{eqb}
 use lib.ListN.{length, getD, drop}
 use Rattle.text.specs.Bytes.{Text, Words, same, empty, rest, anyOf}
 use Rattle.text.specs.Reading.{left}
-use Rattle.profile.specs.Profile.{Profile}
+use Rattle.profile.specs.Profile.{Profile, fields}
 use Rattle.rules.specs.Words.{hasDollar, isStar}
 use Rattle.answers.specs.Matching.{members, wordMatches, valueMatches}
 use Rattle.matching.specs.Groups.{groupsAt, asked, Rowed}
@@ -54,3 +55,10 @@ pub record RowFilled (s : Text) (at : ℕ) (p : Profile) (rows rows′ : List Bo
   pub size : length rows′ ≡ 640
   pub old : (i : ℕ) → i < 10 * g → getD rows′ i false ≡ getD rows i false
   pub new : (j : ℕ) → j < 10 → getD rows′ (10 * g + j) false ≡ asked p j (drop 1 (left s at))
+
+-- row g after a word is held against the first four fields of a text, from question b on
+pub record FieldsMarked (s w : Text) (rows rows′ : List Bool) (g b : ℕ) : Type 0 where
+  pub size : length rows′ ≡ 640
+  pub old : (i : ℕ) → i < 10 * g → getD rows′ i false ≡ getD rows i false
+  pub new : (j : ℕ) → j < 4 → getD rows′ (10 * g + (b + j)) false ≡ (getD rows (10 * g + (b + j)) false || same (getD (fields s) j []) w)
+  pub other : (i : ℕ) → (i < b) ⊎ (b + 4 ≤ i) → getD rows′ (10 * g + i) false ≡ getD rows (10 * g + i) false

@@ -8,9 +8,9 @@ ghost use Rattle.text.specs.Reading.{left, Table, Fenced, Within};
 ghost use Rattle.profile.specs.Profile.{textsOf, profileOf, optionsOf};
 ghost use Rattle.profile.specs.Listing.{Listed};
 ghost use Rattle.rules.specs.Checking.{Named};
-ghost use Rattle.matching.specs.Groups.{asked, Rowed, Noted};
-ghost use Rattle.matching.specs.Rows.{Told, ofGroup, Marked, Cleared, RowFilled};
-use profile::fields::field;
+ghost use Rattle.matching.specs.Groups.{Rowed, Noted};
+ghost use Rattle.matching.specs.Rows.{Told, ofGroup, FieldsMarked, Marked, Cleared, RowFilled};
+use profile::fields::field_end;
 use profile::table::has_option;
 use text::Next;
 use text::compare::same;
@@ -41,31 +41,24 @@ pub fn group_asked(
     false
 }
 
-// Question j of one word.
-fn word_asked(
-    word: &[u8],
-    j: usize,
-    model: &[u8],
-    layouts: &[u8],
-    variants: &[u8],
-    options: &[u8],
-    table: &[usize; 128],
-    count: usize,
-) -> bool
-    requires { ⌜ Listed (now options) (now table) count × (length (optionsOf (now options)) ≤ mostOptions) ⌝ }
-    ensures { λ r. ⌜ r ≡ asked (profileOf (textsOf (now (model .entry)) (now (layouts .entry)) (now (variants .entry)) (now (options .entry))))
-        j (now (word .entry) ∷ []) ⌝ }
+// A word held against the first four fields of a text: row g from question b on.
+fn mark_fields(word: &[u8], text: &[u8], rows: &mut [bool; 640], g: usize, b: usize)
+    requires { ⌜ (1 ≤ length (now word)) × (g < 64) × (b ≤ 6) × (length (now rows) ≡ 640) ⌝ }
+    ensures { λ _. ⌜ FieldsMarked (now (text .entry)) (now (word .entry)) (now (rows .entry)) (now (rows .exit)) g b ⌝ }
 {
-    if j == 0 {
-        return same(model, word);
+    let mut start: usize = 0;
+    let mut j: usize = 0;
+    while j < 4 {
+        let e = field_end(text, start);
+        if same(&text[start..e], word) {
+            rows[10 * g + (b + j)] = true;
+        }
+        if text.len() <= e {
+            return;
+        }
+        start = e + 1;
+        j += 1;
     }
-    if j <= 4 {
-        return same(field(layouts, j - 1), word);
-    }
-    if j <= 8 {
-        return same(field(variants, j - 5), word);
-    }
-    has_option(options, table, count, word)
 }
 
 // The ten questions of one word, put into row g.
@@ -80,18 +73,18 @@ fn mark_word(
     rows: &mut [bool; 640],
     g: usize,
 )
-    requires { ⌜ Listed (now options) (now table) count × (length (optionsOf (now options)) ≤ mostOptions) × (g < 64) × (length (now rows) ≡ 640) ⌝ }
+    requires { ⌜ (1 ≤ length (now word)) × Listed (now options) (now table) count × (length (optionsOf (now options)) ≤ mostOptions)
+        × (g < 64) × (length (now rows) ≡ 640) ⌝ }
     ensures { λ _. ⌜ Marked (profileOf (textsOf (now (model .entry)) (now (layouts .entry)) (now (variants .entry)) (now (options .entry))))
         (now (word .entry) ∷ []) (now (rows .entry)) (now (rows .exit)) g ⌝ }
 {
-    let mut j: usize = 0;
-    while j < 10 {
-        if word_asked(word, j, model, layouts, variants, options, table, count) {
-            rows[10 * g + j] = true;
-            j += 1;
-        } else {
-            j += 1;
-        }
+    if same(model, word) {
+        rows[10 * g] = true;
+    }
+    mark_fields(word, layouts, rows, g, 1);
+    mark_fields(word, variants, rows, g, 5);
+    if has_option(options, table, count, word) {
+        rows[10 * g + 9] = true;
     }
 }
 

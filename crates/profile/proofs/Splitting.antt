@@ -162,7 +162,7 @@ getD-suc : (t : Text) (ts : List Text) (n : ℕ) → 0 < n → getD (t ∷ ts) n
 getD-suc t ts zero h = absurd (omega arith)
 getD-suc t ts (suc n) h = let z : suc n - 1 ≡ n = omega arith in rw z
 
-getD-nil : (n : ℕ) → getD {A = Text} [] n [] ≡ []
+pub getD-nil : (n : ℕ) → getD {A = Text} [] n [] ≡ []
 getD-nil zero = refl
 getD-nil (suc n) = refl
 

@@ -1,71 +1,58 @@
 use borrow.Author.Needs.{needs}
-use Prim.Native.Nat.{_-_}
-use native.Mathlib.Omega.{arith}
-use mathlib.Core.Path.{_≡_, sym, ap, _∙_}
-use mathlib.Core.List.{[], _∷_}
-use Rattle.profile.specs.Profile.{textsOf, profileOf}
-use Rattle.matching.proofs.Filling.{Marking, marking-start, marking-yes, marking-no, marking-end}
 use Rattle.matching.proofs.groups.mark_word.Statement.{statement}
 use Rattle.matching.proofs.groups.mark_word.Tie as tie
-use Rattle.matching.proofs.groups.word_asked.Reads as word-asked-reads
+use native.Mathlib.Omega.{arith}
+use mathlib.Core.Path.{_≡_, refl, sym, _∙_}
+use mathlib.Core.Logic.{inl, inr, ⊎-elim}
+use Rattle.profile.specs.Profile.{textsOf}
+use Rattle.profile.proofs.Listing.{all-options}
+use Rattle.matching.proofs.Filling.{marking-model, marking-fields, ask-layouts, ask-variants, marked-yes, marked-no}
 
-abbrev Inv-loop : tie.InvT-loop
-Inv-loop word model layouts variants options table count rows₀ g j₀ rows j = Marking (profileOf (textsOf model layouts variants options)) (word ∷ []) rows₀ rows g j
+same-requires : tie.Need-same-requires
+same-requires c κs = search needs
 
-abbrev μ-loop : tie.MeasureT-loop
-μ-loop word model layouts variants options table count rows₀ g j₀ rows j = 10 - j
-
-loop-holds : tie.Need-loop-holds Inv-loop μ-loop
-loop-holds c = marking-start _ _ _ _ (c .before .before .before .before .before .pre .3)
-
-word-asked-requires : tie.Need-word-asked-requires Inv-loop μ-loop
-word-asked-requires c κs = search needs
-
-mul-rows : tie.Need-mul-rows Inv-loop μ-loop
+mul-rows : tie.Need-mul-rows
 mul-rows c = search needs
 
-add-rows : tie.Need-add-rows Inv-loop μ-loop
-add-rows c = search needs
-
-element-write-rows : tie.Need-element-write-rows Inv-loop μ-loop
+element-write-rows : tie.Need-element-write-rows
 element-write-rows c = search needs
 
-add-j : tie.Need-add-j Inv-loop μ-loop
-add-j c = search needs
+mark-fields-requires : tie.Need-mark-fields-requires
+mark-fields-requires c κs = (c .before .before .before .before .before .before .before .before .pre .0, c .before .before .before .before .before .before .before .before .pre .3, omega arith, (marking-model (textsOf (c .before .before .before .before .before .before .before .before .args .model .now) (c .before .before .before .before .before .before .before .before .args .layouts .now) (c .before .before .before .before .before .before .before .before .args .variants .now) (c .before .before .before .before .before .before .before .before .args .options .now)) (c .before .before .before .before .before .before .before .before .args .word .now) _ _ _ (c .before .before .before .before .before .before .before .before .pre .4) (c .before .before .before .before .before .before .before .before .pre .3) (⊎-elim (λ w. inl (sym (c .before .before .same .ensures) ∙ w .0 .taken, w .1)) (λ w. inr (sym (c .before .before .same .ensures) ∙ w .0 .left, w .1)) (c .before .if1 .came))) .size)
 
-loop-less : tie.Need-loop-less Inv-loop μ-loop
-loop-less c = search needs
+mark-fields-requires-2 : tie.Need-mark-fields-requires-2
+mark-fields-requires-2 c κs = search needs
 
-loop-again : tie.Need-loop-again Inv-loop μ-loop
-loop-again c = marking-yes _ _ _ _ _ _ (c .before .before .before .loop .inv) (c .before .before .before .before .before .before .before .before .before .pre .2) (c .before .before .loop-test .taken) (sym (c .before .word-asked .ensures) ∙ c .if1 .taken)
+has-option-requires : tie.Need-has-option-requires
+has-option-requires c κs = search needs
 
-add-j-2 : tie.Need-add-j-2 Inv-loop μ-loop
-add-j-2 c = search needs
+mul-rows-2 : tie.Need-mul-rows-2
+mul-rows-2 c = search needs
 
-loop-less-2 : tie.Need-loop-less-2 Inv-loop μ-loop
-loop-less-2 c = search needs
+add-rows : tie.Need-add-rows
+add-rows c = search needs
 
-loop-again-2 : tie.Need-loop-again-2 Inv-loop μ-loop
-loop-again-2 c = marking-no _ _ _ _ _ _ (c .before .before .before .loop .inv) (c .before .before .loop-test .taken) (sym (c .before .word-asked .ensures) ∙ c .if1 .left)
+element-write-rows-2 : tie.Need-element-write-rows-2
+element-write-rows-2 c = search needs
 
-returns : tie.Need-returns Inv-loop μ-loop
-returns c = marking-end _ _ _ _ _ _ (c .before .loop .inv) (c .loop-test .left)
+returns : tie.Need-returns
+returns c = marked-yes (textsOf (c .before .before .before .before .before .before .before .before .before .before .before .before .before .args .model .now) (c .before .before .before .before .before .before .before .before .before .before .before .before .before .args .layouts .now) (c .before .before .before .before .before .before .before .before .before .before .before .before .before .args .variants .now) (c .before .before .before .before .before .before .before .before .before .before .before .before .before .args .options .now)) (c .before .before .before .before .before .before .before .before .before .before .before .before .before .args .word .now) _ _ _ (marking-fields (textsOf (c .before .before .before .before .before .before .before .before .before .before .before .before .before .args .model .now) (c .before .before .before .before .before .before .before .before .before .before .before .before .before .args .layouts .now) (c .before .before .before .before .before .before .before .before .before .before .before .before .before .args .variants .now) (c .before .before .before .before .before .before .before .before .before .before .before .before .before .args .options .now)) (c .before .before .before .before .before .before .before .before .before .before .before .before .before .args .word .now) _ _ _ 5 (ask-variants (textsOf (c .before .before .before .before .before .before .before .before .before .before .before .before .before .args .model .now) (c .before .before .before .before .before .before .before .before .before .before .before .before .before .args .layouts .now) (c .before .before .before .before .before .before .before .before .before .before .before .before .before .args .variants .now) (c .before .before .before .before .before .before .before .before .before .before .before .before .before .args .options .now)) (c .before .before .before .before .before .before .before .before .before .before .before .before .before .args .word .now)) _ _ (omega arith) (marking-fields (textsOf (c .before .before .before .before .before .before .before .before .before .before .before .before .before .args .model .now) (c .before .before .before .before .before .before .before .before .before .before .before .before .before .args .layouts .now) (c .before .before .before .before .before .before .before .before .before .before .before .before .before .args .variants .now) (c .before .before .before .before .before .before .before .before .before .before .before .before .before .args .options .now)) (c .before .before .before .before .before .before .before .before .before .before .before .before .before .args .word .now) _ _ _ 1 (ask-layouts (textsOf (c .before .before .before .before .before .before .before .before .before .before .before .before .before .args .model .now) (c .before .before .before .before .before .before .before .before .before .before .before .before .before .args .layouts .now) (c .before .before .before .before .before .before .before .before .before .before .before .before .before .args .variants .now) (c .before .before .before .before .before .before .before .before .before .before .before .before .before .args .options .now)) (c .before .before .before .before .before .before .before .before .before .before .before .before .before .args .word .now)) _ _ (omega arith) (marking-model (textsOf (c .before .before .before .before .before .before .before .before .before .before .before .before .before .args .model .now) (c .before .before .before .before .before .before .before .before .before .before .before .before .before .args .layouts .now) (c .before .before .before .before .before .before .before .before .before .before .before .before .before .args .variants .now) (c .before .before .before .before .before .before .before .before .before .before .before .before .before .args .options .now)) (c .before .before .before .before .before .before .before .before .before .before .before .before .before .args .word .now) _ _ _ (c .before .before .before .before .before .before .before .before .before .before .before .before .before .pre .4) (c .before .before .before .before .before .before .before .before .before .before .before .before .before .pre .3) (⊎-elim (λ w. inl (sym (c .before .before .before .before .before .before .before .same .ensures) ∙ w .0 .taken, w .1)) (λ w. inr (sym (c .before .before .before .before .before .before .before .same .ensures) ∙ w .0 .left, w .1)) (c .before .before .before .before .before .before .if1 .came))) (c .before .before .before .before .mark-fields .ensures)) (c .before .before .mark-fields2 .ensures)) (c .before .before .before .before .before .before .before .before .before .before .before .before .before .pre .3) (sym (all-options (c .before .before .before .before .before .before .before .before .before .before .before .before .before .args .word .now) (c .before .before .before .before .before .before .before .before .before .before .before .before .before .args .options .now) (c .before .before .before .before .before .before .before .before .before .before .before .before .before .pre .2)) ∙ (sym (c .before .has-option .ensures) ∙ c .if2 .taken))
+
+returns-2 : tie.Need-returns-2
+returns-2 c = marked-no (textsOf (c .before .before .before .before .before .before .before .before .before .before .before .before .before .args .model .now) (c .before .before .before .before .before .before .before .before .before .before .before .before .before .args .layouts .now) (c .before .before .before .before .before .before .before .before .before .before .before .before .before .args .variants .now) (c .before .before .before .before .before .before .before .before .before .before .before .before .before .args .options .now)) (c .before .before .before .before .before .before .before .before .before .before .before .before .before .args .word .now) _ _ _ (marking-fields (textsOf (c .before .before .before .before .before .before .before .before .before .before .before .before .before .args .model .now) (c .before .before .before .before .before .before .before .before .before .before .before .before .before .args .layouts .now) (c .before .before .before .before .before .before .before .before .before .before .before .before .before .args .variants .now) (c .before .before .before .before .before .before .before .before .before .before .before .before .before .args .options .now)) (c .before .before .before .before .before .before .before .before .before .before .before .before .before .args .word .now) _ _ _ 5 (ask-variants (textsOf (c .before .before .before .before .before .before .before .before .before .before .before .before .before .args .model .now) (c .before .before .before .before .before .before .before .before .before .before .before .before .before .args .layouts .now) (c .before .before .before .before .before .before .before .before .before .before .before .before .before .args .variants .now) (c .before .before .before .before .before .before .before .before .before .before .before .before .before .args .options .now)) (c .before .before .before .before .before .before .before .before .before .before .before .before .before .args .word .now)) _ _ (omega arith) (marking-fields (textsOf (c .before .before .before .before .before .before .before .before .before .before .before .before .before .args .model .now) (c .before .before .before .before .before .before .before .before .before .before .before .before .before .args .layouts .now) (c .before .before .before .before .before .before .before .before .before .before .before .before .before .args .variants .now) (c .before .before .before .before .before .before .before .before .before .before .before .before .before .args .options .now)) (c .before .before .before .before .before .before .before .before .before .before .before .before .before .args .word .now) _ _ _ 1 (ask-layouts (textsOf (c .before .before .before .before .before .before .before .before .before .before .before .before .before .args .model .now) (c .before .before .before .before .before .before .before .before .before .before .before .before .before .args .layouts .now) (c .before .before .before .before .before .before .before .before .before .before .before .before .before .args .variants .now) (c .before .before .before .before .before .before .before .before .before .before .before .before .before .args .options .now)) (c .before .before .before .before .before .before .before .before .before .before .before .before .before .args .word .now)) _ _ (omega arith) (marking-model (textsOf (c .before .before .before .before .before .before .before .before .before .before .before .before .before .args .model .now) (c .before .before .before .before .before .before .before .before .before .before .before .before .before .args .layouts .now) (c .before .before .before .before .before .before .before .before .before .before .before .before .before .args .variants .now) (c .before .before .before .before .before .before .before .before .before .before .before .before .before .args .options .now)) (c .before .before .before .before .before .before .before .before .before .before .before .before .before .args .word .now) _ _ _ (c .before .before .before .before .before .before .before .before .before .before .before .before .before .pre .4) (c .before .before .before .before .before .before .before .before .before .before .before .before .before .pre .3) (⊎-elim (λ w. inl (sym (c .before .before .before .before .before .before .before .same .ensures) ∙ w .0 .taken, w .1)) (λ w. inr (sym (c .before .before .before .before .before .before .before .same .ensures) ∙ w .0 .left, w .1)) (c .before .before .before .before .before .before .if1 .came))) (c .before .before .before .before .mark-fields .ensures)) (c .before .before .mark-fields2 .ensures)) (sym (all-options (c .before .before .before .before .before .before .before .before .before .before .before .before .before .args .word .now) (c .before .before .before .before .before .before .before .before .before .before .before .before .before .args .options .now) (c .before .before .before .before .before .before .before .before .before .before .before .before .before .pre .2)) ∙ (sym (c .before .has-option .ensures) ∙ c .if2 .left))
 
 pub mark-word-spec : {M : Type 1} → statement M
 mark-word-spec =
     tie.close
     (tie.spec
-    Inv-loop
-    μ-loop
-    loop-holds
-    word-asked-requires
+    same-requires
     mul-rows
-    add-rows
     element-write-rows
-    add-j
-    loop-less
-    loop-again
-    add-j-2
-    loop-less-2
-    loop-again-2
-    returns)
+    mark-fields-requires
+    mark-fields-requires-2
+    has-option-requires
+    mul-rows-2
+    add-rows
+    element-write-rows-2
+    returns
+    returns-2)

@@ -1,16 +1,13 @@
 use borrow.Author.Needs.{needs}
+use Rattle.matching.proofs.groups.mark_words.Statement.{statement}
+use Rattle.matching.proofs.groups.mark_words.Tie as tie
 use Prim.Native.Nat.{_-_}
 use native.Mathlib.Omega.{arith}
-use mathlib.Core.Path.{_≡_, sym, ap, _∙_}
 use lib.ListN.{length}
 use Rattle.text.specs.Bytes.{part}
 use Rattle.text.proofs.Readers.{found, stopped}
 use Rattle.profile.specs.Profile.{textsOf}
-use Rattle.matching.proofs.Filling.{WordsOn, words-start, words-more, words-end}
-use Rattle.matching.proofs.groups.mark_words.Statement.{statement}
-use Rattle.matching.proofs.groups.mark_words.Tie as tie
-use Rattle.matching.proofs.groups.mark_word.Reads as mark-word-reads
-use Rattle.text.proofs.reader.word_at.Reads as word-at-reads
+use Rattle.matching.proofs.Filling.{found-some, WordsOn, words-start, words-more, words-end}
 
 abbrev Inv-loop : tie.InvT-loop
 Inv-loop s t fence at line model layouts variants options table count rows₀ g i₀ l₀ rows i l = WordsOn s at (textsOf model layouts variants options) rows₀ rows g i l
@@ -37,7 +34,8 @@ part-mark-word-end : tie.Need-part-mark-word-end Inv-loop μ-loop
 part-mark-word-end c = let u = found _ _ _ _ _ _ _ _ (c .before .start .given .1) (c .before .before .before .word-at .ensures) in u .high
 
 mark-word-requires : tie.Need-mark-word-requires Inv-loop μ-loop
-mark-word-requires c κs = (c .before .before .before .before .before .before .before .before .before .before .before .before .pre .1, c .before .before .before .before .before .before .before .before .before .before .before .before .pre .2, c .before .before .before .before .before .before .before .before .before .before .before .before .pre .3, c .before .before .before .before .before .before .loop .inv .size)
+unfolding part
+mark-word-requires c κs = (found-some _ _ _ _ _ _ _ (found _ _ _ _ _ _ _ _ (c .before .before .before .start .given .1) (c .before .before .before .before .before .word-at .ensures)), c .before .before .before .before .before .before .before .before .before .before .before .before .pre .1, c .before .before .before .before .before .before .before .before .before .before .before .before .pre .2, c .before .before .before .before .before .before .before .before .before .before .before .before .pre .3, c .before .before .before .before .before .before .loop .inv .size)
 
 loop-less : tie.Need-loop-less Inv-loop μ-loop
 loop-less c = let u = found _ _ _ _ _ _ _ _ (c .before .before .before .before .start .given .1) (c .before .before .before .before .before .before .word-at .ensures) in omega (arith, u .low, u .some, u .high)
