@@ -16,7 +16,7 @@ test:
 	bash .ci/run
 
 stock:
-	test -e $(STOCK)/evdev || apt-get install -y xkb-data
+	test -e $(STOCK)/evdev || { apt-get update && apt-get install -y xkb-data; }
 	rt staticlib xkbrules
 	bash tests/compare/run stock $(STOCK)/evdev $(STOCK)/evdev.lst
 	bash tests/compare/run stock $(STOCK)/base $(STOCK)/base.lst
