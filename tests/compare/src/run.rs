@@ -148,20 +148,28 @@ fn disagrees(case: &Case) -> bool {
     !complaints(case, &case.second()).is_empty()
 }
 
-/// The case made small while the resolvers disagree; a plain room is tried first.
+/// The length of the ten texts, in whatever room.
+fn total(case: &Case) -> usize {
+    case.with_room(usize::MAX).second().total()
+}
+
+/// The case made small while the resolvers disagree: with a plain room if it
+/// can be, else with a room that is as much over or under the total.
 fn small(case: &Case) -> Case {
     if !disagrees(case) {
         return case.clone();
     }
-    let mut room = case.room;
-    for plain in [65_536, 4096, 64] {
-        if disagrees(&case.with_room(plain)) {
-            room = plain;
-        }
-    }
-    let still = |inputs: &[Vec<u8>]| disagrees(&Case::of(inputs, room));
-    let inputs = shrink(case.inputs.to_vec(), &still);
-    Case::of(&inputs, room)
+    let plain = [64, 4096, 65_536]
+        .into_iter()
+        .find(|&room| disagrees(&case.with_room(room)));
+    let old = total(case);
+    let smaller = |inputs: &[Vec<u8>]| {
+        let smaller = Case::of(inputs, case.room);
+        let room = plain.unwrap_or_else(|| (case.room + total(&smaller)).saturating_sub(old));
+        smaller.with_room(room)
+    };
+    let inputs = shrink(case.inputs.to_vec(), &|inputs| disagrees(&smaller(inputs)));
+    smaller(&inputs)
 }
 
 fn print_failure(name: &str, failure: &Failure, small: &Case) {
