@@ -77,10 +77,35 @@ fn make_joined(rng: &mut Prng) -> (Vec<Vec<u8>>, usize) {
     };
     let sets = rng.below(4);
     let rows = valid_rows(rng, &profile, LATER_GROUPS, named, sets);
-    let second = write(rng, &rows);
+    let mut second = write(rng, &rows);
+    if rng.chance(10) {
+        to_a_limit(rng, &mut first, &mut second);
+    }
     let mut inputs = vec![first, second];
     inputs.extend(profile.texts());
     (inputs, [4096, 65_536, 300][rng.below(3)])
+}
+
+/// Puts group lines or blank lines before both, so that the joined file is at
+/// a limit or beyond it.
+fn to_a_limit(rng: &mut Prng, first: &mut Vec<u8>, second: &mut Vec<u8>) {
+    let defined = |rules: &[u8]| second::read(rules).map_or(0, |file| file.defined().len());
+    let in_groups = rng.chance(50);
+    let (most, there): (usize, usize) = if in_groups {
+        (64, defined(first) + defined(second))
+    } else {
+        (65_536, first.len() + second.len())
+    };
+    let more = (most + 2).saturating_sub(there + rng.below(4));
+    let split = rng.below(more + 1);
+    let line = |i: usize| match in_groups {
+        true => format!("! $of{i} = us pc\n"),
+        false => "\n".into(),
+    };
+    for (rules, range) in [(first, 0..split), (second, split..more)] {
+        let lines: String = range.map(line).collect();
+        rules.splice(0..0, lines.into_bytes());
+    }
 }
 
 /// What the joined file must answer, if the law speaks of these files.
