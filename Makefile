@@ -1,7 +1,9 @@
-# `make` proves every crate, builds the static library, the program and the C example, and runs document 01's example; `make test` is the gate.
-.PHONY: all test clean
+# `make` proves every crate, builds the static library, the program and the C example, and runs document 01's example; `make test` is the gate;
+# `make stock` compares the library with the second resolver on the rules files of Debian's xkb-data, which it installs if they are not there.
+.PHONY: all test stock clean
 
 CFLAGS = -O2 -Wall -Wextra -std=c99
+STOCK = /usr/share/X11/xkb/rules
 
 all:
 	rt check
@@ -12,6 +14,12 @@ all:
 
 test:
 	bash .ci/run
+
+stock:
+	test -e $(STOCK)/evdev || { apt-get update && apt-get install -y xkb-data; }
+	rt staticlib xkbrules
+	bash tests/compare/run stock $(STOCK)/evdev $(STOCK)/evdev.lst
+	bash tests/compare/run stock $(STOCK)/base $(STOCK)/base.lst
 
 clean:
 	rm -rf target

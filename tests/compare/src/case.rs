@@ -10,10 +10,15 @@ pub struct Case {
 }
 
 impl Case {
+    /// Of the first five inputs.
+    pub fn of<T: AsRef<[u8]>>(inputs: &[T], room: usize) -> Case {
+        let inputs = std::array::from_fn(|i| inputs[i].as_ref().to_vec());
+        Case { inputs, room }
+    }
+
     pub fn new(rules: &[u8], profile: [&[u8]; 4], room: usize) -> Case {
         let [model, layouts, variants, options] = profile;
-        let inputs = [rules, model, layouts, variants, options].map(<[u8]>::to_vec);
-        Case { inputs, room }
+        Case::of(&[rules, model, layouts, variants, options], room)
     }
 
     pub fn text(rules: &str, profile: [&str; 4], room: usize) -> Case {

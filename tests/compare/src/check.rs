@@ -13,12 +13,12 @@ const GUARD: usize = 24;
 
 /// A buffer filled with a pattern, of which the middle is lent.
 #[derive(Clone)]
-pub struct Lent {
+struct Lent {
     bytes: Vec<u8>,
 }
 
 impl Lent {
-    pub fn new(length: usize, pattern: u8) -> Lent {
+    fn new(length: usize, pattern: u8) -> Lent {
         let fill = |i: usize| (i as u8).wrapping_mul(29).wrapping_add(7) ^ pattern;
         Lent {
             bytes: (0..length + 2 * GUARD).map(fill).collect(),
@@ -29,7 +29,7 @@ impl Lent {
         GUARD..self.bytes.len() - GUARD
     }
 
-    pub fn lent(&self) -> &[u8] {
+    fn lent(&self) -> &[u8] {
         &self.bytes[self.range()]
     }
 
@@ -58,10 +58,10 @@ impl Lent {
 
 /// What a call gave and left.
 pub struct Seen {
-    pub number: Number,
-    pub texts: Lent,
-    pub sheet: Lent,
-    pub inputs_stayed: bool,
+    number: Number,
+    texts: Lent,
+    sheet: Lent,
+    inputs_stayed: bool,
 }
 
 /// Calls the library with buffers filled with a pattern.
@@ -87,6 +87,13 @@ pub fn call(case: &Case, sheet_length: usize, pattern: u8) -> Seen {
 }
 
 impl Seen {
+    /// Whether two calls gave and left the same.
+    pub fn same(&self, other: &Seen) -> bool {
+        let difference = self.texts.difference(&other.texts);
+        let difference = difference.or(self.sheet.difference(&other.sheet));
+        self.number == other.number && difference.is_none()
+    }
+
     /// The answer as far as it can be read.
     pub fn answer(&self) -> Answer {
         let mut answer = Answer {
@@ -113,7 +120,7 @@ fn sheet_bytes(lengths: &[u32; 10]) -> Vec<u8> {
     lengths.iter().flat_map(|l| l.to_le_bytes()).collect()
 }
 
-pub fn lengths(answer: &Answer) -> [u32; 10] {
+fn lengths(answer: &Answer) -> [u32; 10] {
     std::array::from_fn(|i| answer.texts[i].len() as u32)
 }
 
@@ -196,6 +203,9 @@ fn compare_components(case: &Case, expected: &Answer, mark: usize, list: &mut Ve
     }
     for wrong in wrong_lengths(&right, spare, mark) {
         one_sheet(&mut texts, case.room, &wrong, 40, list);
+    }
+    if texts.difference(&Lent::new(case.room, 0x33)).is_some() {
+        list.push("the component entry changed the texts".into());
     }
 }
 

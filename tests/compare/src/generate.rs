@@ -1,4 +1,4 @@
-//! Part c: generated files and profiles. A file is first a list of lines of
+//! Generated files and profiles. A file is first a list of lines of
 //! words; faults are put into these; then it is written out with blanks,
 //! comments and joined lines; then bytes may be damaged.
 

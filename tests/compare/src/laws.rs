@@ -1,4 +1,4 @@
-//! Part e: laws between calls of the library: joined files, options in other
+//! Laws between calls of the library: joined files, options in other
 //! order, a call after another call, and two threads at once.
 
 use std::collections::HashSet;
@@ -53,13 +53,6 @@ const LAWS: [Law; 3] = [
     },
 ];
 
-fn case_of(inputs: [&Vec<u8>; 5], room: usize) -> Case {
-    Case {
-        inputs: inputs.map(Clone::clone),
-        room,
-    }
-}
-
 // Joined files.
 
 fn make_joined(rng: &mut Prng) -> (Vec<Vec<u8>>, usize) {
@@ -84,10 +77,35 @@ fn make_joined(rng: &mut Prng) -> (Vec<Vec<u8>>, usize) {
     };
     let sets = rng.below(4);
     let rows = valid_rows(rng, &profile, LATER_GROUPS, named, sets);
-    let second = write(rng, &rows);
+    let mut second = write(rng, &rows);
+    if rng.chance(10) {
+        to_a_limit(rng, &mut first, &mut second);
+    }
     let mut inputs = vec![first, second];
     inputs.extend(profile.texts());
     (inputs, [4096, 65_536, 300][rng.below(3)])
+}
+
+/// Puts group lines or blank lines before both, so that the joined file is at
+/// a limit or beyond it.
+fn to_a_limit(rng: &mut Prng, first: &mut Vec<u8>, second: &mut Vec<u8>) {
+    let defined = |rules: &[u8]| second::read(rules).map_or(0, |file| file.defined().len());
+    let in_groups = rng.chance(50);
+    let (most, there): (usize, usize) = if in_groups {
+        (64, defined(first) + defined(second))
+    } else {
+        (65_536, first.len() + second.len())
+    };
+    let more = (most + 2).saturating_sub(there + rng.below(4));
+    let split = rng.below(more + 1);
+    let line = |i: usize| match in_groups {
+        true => format!("! $of{i} = us pc\n"),
+        false => "\n".into(),
+    };
+    for (rules, range) in [(first, 0..split), (second, split..more)] {
+        let lines: String = range.map(line).collect();
+        rules.splice(0..0, lines.into_bytes());
+    }
 }
 
 /// What the joined file must answer, if the law speaks of these files.
@@ -117,7 +135,7 @@ fn joined(inputs: &[Vec<u8>], room: usize) -> Outcome {
     let [first, second, model, layouts, variants, options] = inputs else {
         return Outcome::Skipped;
     };
-    let part = |rules: &Vec<u8>| case_of([rules, model, layouts, variants, options], room);
+    let part = |rules: &Vec<u8>| Case::of(&[rules, model, layouts, variants, options], room);
     let one = call(&part(first), 40, 1).answer();
     let two = call(&part(second), 40, 1).answer();
     let Some(wanted) = joined_answer(first, second, &one, &two) else {
@@ -175,16 +193,9 @@ fn options(inputs: &[Vec<u8>], room: usize) -> Outcome {
     if !within(options, &one) || !within(others, &two) || same != two.iter().collect() {
         return Outcome::Skipped;
     }
-    let seen = |options| {
-        call(
-            &case_of([rules, model, layouts, variants, options], room),
-            44,
-            9,
-        )
-    };
-    let (one, two) = (seen(options), seen(others));
-    let texts = one.texts.lent() == two.texts.lent();
-    if one.number == two.number && texts && one.sheet.lent() == two.sheet.lent() {
+    let part = |options| Case::of(&[rules, model, layouts, variants, options], room);
+    let (one, two) = (call(&part(options), 44, 9), call(&part(others), 44, 9));
+    if one.same(&two) {
         return Outcome::Holds;
     }
     Outcome::Broken(vec![
@@ -208,19 +219,11 @@ fn make_after(rng: &mut Prng) -> (Vec<Vec<u8>>, usize) {
 }
 
 fn after(inputs: &[Vec<u8>], room: usize) -> Outcome {
-    let case = Case {
-        inputs: std::array::from_fn(|i| inputs[i].clone()),
-        room,
-    };
-    let other = Case {
-        inputs: std::array::from_fn(|i| inputs[5 + i].clone()),
-        room,
-    };
-    let alone = call(&case, 40, 3);
-    let between = call(&other, 40, 3);
-    let again = call(&case, 40, 3);
-    let texts = alone.texts.lent() == again.texts.lent();
-    if alone.number == again.number && texts && alone.sheet.lent() == again.sheet.lent() {
+    let (case, other) = (Case::of(inputs, room), Case::of(&inputs[5..], room));
+    let alone = call(&case, 44, 3);
+    let between = call(&other, 44, 3);
+    let again = call(&case, 44, 3);
+    if alone.same(&again) {
         return Outcome::Holds;
     }
     Outcome::Broken(vec![
@@ -236,15 +239,35 @@ fn after(inputs: &[Vec<u8>], room: usize) -> Outcome {
 #[derive(Default)]
 struct Found {
     cases: u64,
-    skipped: u64,
     broken: Vec<(u64, Vec<Vec<u8>>, usize)>,
 }
 
-fn run_law(law: &Law, seed: u64, count: u64) -> (u64, u64) {
+/// How often a law was looked at, and how often it was broken.
+pub struct Looked {
+    pub name: &'static str,
+    pub cases: u64,
+    pub broken: u64,
+}
+
+impl Looked {
+    fn new(name: &'static str, cases: u64, broken: usize) -> Looked {
+        let broken = broken as u64;
+        if broken > 0 {
+            println!("law, {name}: {cases} cases, {broken} disagreements");
+        }
+        Looked {
+            name,
+            cases,
+            broken,
+        }
+    }
+}
+
+fn run_law(law: &Law, seed: u64, count: u64) -> Looked {
     let work = |index: u64, found: &mut Found| {
         let (inputs, room) = (law.make)(&mut Prng::new(seed ^ 0x1a75, index));
         match (law.look)(&inputs, room) {
-            Outcome::Skipped => found.skipped += 1,
+            Outcome::Skipped => {}
             Outcome::Holds => found.cases += 1,
             Outcome::Broken(_) => {
                 found.cases += 1;
@@ -255,20 +278,15 @@ fn run_law(law: &Law, seed: u64, count: u64) -> (u64, u64) {
     let mut all = Found::default();
     for found in spread(count, &work) {
         all.cases += found.cases;
-        all.skipped += found.skipped;
         all.broken.extend(found.broken);
     }
     all.broken.sort();
-    let (cases, broken) = (all.cases, all.broken.len() as u64);
-    println!(
-        "law, {}: {cases} cases ({} outside its premises), {broken} disagreements",
-        law.name, all.skipped
-    );
+    let looked = Looked::new(law.name, all.cases, all.broken.len());
     for (index, inputs, room) in all.broken.into_iter().take(3) {
         println!("law broken, {}, case {index}, made small:", law.name);
         print_broken(law, inputs, room);
     }
-    (cases, broken)
+    looked
 }
 
 fn print_broken(law: &Law, inputs: Vec<Vec<u8>>, room: usize) {
@@ -286,7 +304,7 @@ fn print_broken(law: &Law, inputs: Vec<Vec<u8>>, room: usize) {
 }
 
 /// Two threads at once, in opposite orders, against one thread alone.
-fn two_threads(seed: u64, count: u64) -> (u64, u64) {
+fn two_threads(seed: u64, count: u64) -> Looked {
     let cases: Vec<Case> = (0..count)
         .map(|index| generate::case(seed ^ 0x7357, index))
         .collect();
@@ -298,7 +316,7 @@ fn two_threads(seed: u64, count: u64) -> (u64, u64) {
             order.reverse();
         }
         barrier.wait();
-        let differs = |i: &usize| call(&cases[*i], 40, 5).answer() != alone[*i];
+        let differs = |i: &usize| !complaints(&cases[*i], &alone[*i]).is_empty();
         order.into_iter().filter(differs).collect::<Vec<usize>>()
     };
     let mut found = thread::scope(|scope| {
@@ -308,25 +326,16 @@ fn two_threads(seed: u64, count: u64) -> (u64, u64) {
         found
     });
     found.sort_unstable();
-    let broken = found.len() as u64;
-    println!(
-        "law, two threads at once: {} cases, {broken} disagreements",
-        2 * count
-    );
+    let looked = Looked::new("two threads at once", 2 * count, found.len());
     for i in found.into_iter().take(3) {
         println!("  case:  {}", cases[i].row());
         println!("  alone: {}", answer_row(&alone[i]));
     }
-    (2 * count, broken)
+    looked
 }
 
-/// Cases and disagreements.
-pub fn run(seed: u64, count: u64) -> (u64, u64) {
-    let mut all = (0, 0);
-    for law in &LAWS {
-        let (cases, broken) = run_law(law, seed, count);
-        all = (all.0 + cases, all.1 + broken);
-    }
-    let (cases, broken) = two_threads(seed, count);
-    (all.0 + cases, all.1 + broken)
+pub fn run(seed: u64, count: u64) -> Vec<Looked> {
+    let mut all: Vec<Looked> = LAWS.iter().map(|law| run_law(law, seed, count)).collect();
+    all.push(two_threads(seed, count));
+    all
 }

@@ -1,7 +1,7 @@
 //! Compares the library with a second resolver and with written answers.
 //!
 //! ```text
-//! compare [--vectors FOLDER] [--seed NUMBER] [--count NUMBER]
+//! compare [--seed NUMBER] [--count NUMBER]
 //! compare stock RULES LIST
 //! compare show SEED INDEX
 //! ```
@@ -26,20 +26,18 @@ mod vectors;
 mod words;
 
 use std::env;
-use std::path::{Path, PathBuf};
 use std::process::ExitCode;
+use std::time::Instant;
 
-use run::{print_case, print_histogram, run_list, Tally};
+use run::{print_case, run_list, Tally};
 
 struct Settings {
-    vectors: PathBuf,
     seed: u64,
     count: u64,
 }
 
 fn settings(arguments: &[String]) -> Result<Settings, String> {
     let mut settings = Settings {
-        vectors: Path::new(env!("CARGO_MANIFEST_DIR")).join("vectors"),
         seed: 1,
         count: 120_000,
     };
@@ -48,7 +46,6 @@ fn settings(arguments: &[String]) -> Result<Settings, String> {
             return Err(format!("{} needs a value", pair[0]));
         };
         match name.as_str() {
-            "--vectors" => settings.vectors = value.into(),
             "--seed" => settings.seed = number(value)?,
             "--count" => settings.count = number(value)?,
             _ => return Err(format!("unknown argument {name}")),
@@ -63,33 +60,60 @@ fn number(text: &str) -> Result<u64, String> {
 
 /// All parts. The number of disagreements.
 fn compare(settings: &Settings) -> Result<u64, String> {
+    let start = Instant::now();
     let (seed, count) = (settings.seed, settings.count);
-    let mut all = Tally::default();
-    all.add(vectors::run(&settings.vectors)?);
-    all.add(tables::run());
-    all.add(run::run(
-        "short files",
-        edges::SHORT_FILES,
-        &edges::short_file,
-    ));
-    all.add(run_list("every byte", &edges::bytes()));
-    all.add(run_list("percent items", &edges::percent_items()));
-    all.add(run_list("headings", &edges::headings()));
-    all.add(run_list("faulty lines", &edges::faulty_lines()));
-    all.add(run_list("line places", &edges::line_places()));
-    all.add(run_list("fault orders", &edges::fault_orders()));
-    all.add(run_list("limits", &limits::all()));
-    let make = |index: u64| generate::case(seed, index);
-    let name = format!("generated, seed {seed}");
-    all.add(run::run(&name, count, &make));
-    let (cases, broken) = laws::run(seed, count.div_ceil(8));
-    print_histogram(&all);
+    let generated = format!("generated from seed {seed}");
+    let short = run::run("short files", edges::SHORT_FILES, &edges::short_file);
+    let made = run::run(&generated, count, &|index| generate::case(seed, index));
+    let mut parts = vec![
+        ("vectors", vectors::run()?),
+        ("tables and examples", tables::run()),
+        ("short files", short),
+        (generated.as_str(), made),
+    ];
+    for (name, list) in [
+        ("every byte", edges::bytes()),
+        ("percent items", edges::percent_items()),
+        ("headings", edges::headings()),
+        ("faulty lines", edges::faulty_lines()),
+        ("line places", edges::line_places()),
+        ("fault orders", edges::fault_orders()),
+        ("cuts and flips", edges::cuts_and_flips()),
+        ("limits", limits::all()),
+    ] {
+        parts.push((name, run_list(name, &list)));
+    }
+    let laws = laws::run(seed, count.div_ceil(8));
+    print_counts(
+        "cases",
+        parts.iter().map(|(name, part)| (*name, part.cases)),
+    );
+    print_counts("laws", laws.iter().map(|law| (law.name, law.cases)));
+    let all = Tally::sum(parts.into_iter().map(|(_, part)| part).collect());
+    let numbers: Vec<String> = (0..12).map(|i: u8| i.to_string()).collect();
+    let answers = numbers.iter().map(String::as_str).zip(all.answers);
+    print_counts("answers", answers.clone());
+    println!(
+        "compare: accepted with some text {}, with a base and additions in one component {}",
+        all.with_text, all.with_both
+    );
+    let never: Vec<&str> = answers.filter(|a| a.1 == 0).map(|a| a.0).collect();
+    if !never.is_empty() {
+        return Err(format!("never answered: {}", never.join(", ")));
+    }
+    let broken: u64 = laws.iter().map(|law| law.broken).sum();
     let disagreements = all.failures.len() as u64 + broken;
     println!(
-        "compare: {} cases, {disagreements} disagreements",
-        all.cases + cases
+        "compare: {} cases, {disagreements} disagreements, {} seconds",
+        all.cases + laws.iter().map(|law| law.cases).sum::<u64>(),
+        start.elapsed().as_secs()
     );
     Ok(disagreements)
+}
+
+fn print_counts<'a>(what: &str, counts: impl Iterator<Item = (&'a str, u64)>) {
+    let list: Vec<String> = counts.map(|(name, n)| format!("{name}: {n}")).collect();
+    println!("compare: {what}: {}", list.join(", "));
 }
 
 fn chosen(arguments: &[String]) -> Result<u64, String> {

@@ -1,7 +1,6 @@
 //! Runs many cases over all cores, counts the answers, and prints each
 //! disagreement made small.
 
-use std::collections::BTreeMap;
 use std::thread;
 
 use crate::case::{answer_row, Case};
@@ -20,11 +19,12 @@ pub struct Failure {
     pub written: Option<String>,
 }
 
+/// The cases of one part, or of all.
 #[derive(Default)]
 pub struct Tally {
     pub cases: u64,
-    /// How often each number and place was answered.
-    pub answers: BTreeMap<(u64, u64), u64>,
+    /// How often each number was answered.
+    pub answers: [u64; 12],
     pub with_text: u64,
     pub with_both: u64,
     pub failures: Vec<Failure>,
@@ -43,16 +43,15 @@ impl Tally {
         self.cases += other.cases;
         self.with_text += other.with_text;
         self.with_both += other.with_both;
-        for (answer, count) in other.answers {
-            *self.answers.entry(answer).or_default() += count;
+        for (all, count) in self.answers.iter_mut().zip(other.answers) {
+            *all += count;
         }
         self.failures.extend(other.failures);
     }
 
     pub fn count(&mut self, answer: &Answer) {
         self.cases += 1;
-        let key = (answer.number, answer.place);
-        *self.answers.entry(key).or_default() += 1;
+        self.answers[answer.number as usize] += 1;
         self.with_text += u64::from(answer.total() > 0);
         let both = |t: &[Vec<u8>]| !t[0].is_empty() && !t[1].is_empty();
         self.with_both += u64::from(answer.texts.chunks(2).any(both));
@@ -103,7 +102,7 @@ fn with_rooms(index: u64, case: Case, tally: &mut Tally) {
     }
 }
 
-/// Compares the cases of one part and prints its line.
+/// Compares the cases of one part.
 pub fn run(name: &str, count: u64, make: &(dyn Fn(u64) -> Case + Sync)) -> Tally {
     let work = |index: u64, tally: &mut Tally| with_rooms(index, make(index), tally);
     finish(name, Tally::sum(spread(count, &work)))
@@ -124,10 +123,12 @@ pub fn run_list(name: &str, list: &[Case]) -> Tally {
     })
 }
 
-/// Prints the part's line, and its first disagreements made small.
+/// Prints the part's first disagreements, each made small.
 pub fn finish(name: &str, mut tally: Tally) -> Tally {
     let found = tally.failures.len();
-    println!("{name}: {} cases, {found} disagreements", tally.cases);
+    if found > 0 {
+        println!("{name}: {} cases, {found} disagreements", tally.cases);
+    }
     tally.failures.sort_by_key(|failure| failure.index);
     let mut printed: Vec<Case> = Vec::new();
     for failure in tally.failures.iter().take(4 * PRINTED) {
@@ -147,27 +148,28 @@ fn disagrees(case: &Case) -> bool {
     !complaints(case, &case.second()).is_empty()
 }
 
-fn case_of(inputs: &[Vec<u8>], room: usize) -> Case {
-    Case {
-        inputs: std::array::from_fn(|i| inputs[i].clone()),
-        room,
-    }
+/// The length of the ten texts, in whatever room.
+fn total(case: &Case) -> usize {
+    case.with_room(usize::MAX).second().total()
 }
 
-/// The case made small while the resolvers disagree; a plain room is tried first.
+/// The case made small while the resolvers disagree: with a plain room if it
+/// can be, else with a room that is as much over or under the total.
 fn small(case: &Case) -> Case {
     if !disagrees(case) {
         return case.clone();
     }
-    let mut room = case.room;
-    for plain in [65_536, 4096, 64] {
-        if disagrees(&case.with_room(plain)) {
-            room = plain;
-        }
-    }
-    let still = |inputs: &[Vec<u8>]| disagrees(&case_of(inputs, room));
-    let inputs = shrink(case.inputs.to_vec(), &still);
-    case_of(&inputs, room)
+    let plain = [64, 4096, 65_536]
+        .into_iter()
+        .find(|&room| disagrees(&case.with_room(room)));
+    let old = total(case);
+    let smaller = |inputs: &[Vec<u8>]| {
+        let smaller = Case::of(inputs, case.room);
+        let room = plain.unwrap_or_else(|| (case.room + total(&smaller)).saturating_sub(old));
+        smaller.with_room(room)
+    };
+    let inputs = shrink(case.inputs.to_vec(), &|inputs| disagrees(&smaller(inputs)));
+    smaller(&inputs)
 }
 
 fn print_failure(name: &str, failure: &Failure, small: &Case) {
@@ -199,24 +201,4 @@ pub fn print_case(case: &Case) {
     for complaint in complaints(case, &second).iter().take(4) {
         println!("  library: {complaint}");
     }
-}
-
-/// Prints how often each number was answered, and at which places.
-pub fn print_histogram(tally: &Tally) {
-    println!("answers of both resolvers:");
-    for number in 0..=11 {
-        let of_number = || tally.answers.iter().filter(move |(k, _)| k.0 == number);
-        let count: u64 = of_number().map(|(_, count)| count).sum();
-        let places: Vec<String> = of_number().map(|(k, _)| k.1.to_string()).collect();
-        let shown = match places.len() {
-            0 => "none".into(),
-            1..=12 => places.join(" "),
-            many => format!("{} to {} ({many} of them)", places[0], places[many - 1]),
-        };
-        println!("  {number:2}: {count:8}  places {shown}");
-    }
-    println!(
-        "  accepted with some text: {}, with a base and additions in one component: {}",
-        tally.with_text, tally.with_both
-    );
 }

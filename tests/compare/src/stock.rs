@@ -1,8 +1,8 @@
-//! Part f: a real rules file with profiles made of the names in its list file.
+//! A real rules file with profiles made of the names in its list file.
 
 use std::fs;
 
-use crate::case::Case;
+use crate::case::{escape, Case};
 use crate::prng::Prng;
 use crate::run::run_plain;
 
@@ -104,9 +104,9 @@ fn several(rng: &mut Prng, names: &Names) -> [String; 4] {
 }
 
 /// The number of disagreements and refusals.
-pub fn run(rules: &str, list: &str) -> Result<u64, String> {
+pub fn run(path: &str, list: &str) -> Result<u64, String> {
     let read = |path: &str| fs::read(path).map_err(|e| format!("{path}: {e}"));
-    let rules = read(rules)?;
+    let rules = read(path)?;
     let names = read_names(&String::from_utf8_lossy(&read(list)?));
     let lists = [names.models.len(), names.layouts.len()];
     if lists.contains(&0) || names.variants.is_empty() || names.options.is_empty() {
@@ -117,21 +117,22 @@ pub fn run(rules: &str, list: &str) -> Result<u64, String> {
         Case::new(&rules, profile, ROOM)
     };
     let cases: Vec<Case> = profiles(&names).into_iter().map(make).collect();
+    let tally = run_plain("stock", &cases);
+    let (refused, found) = (tally.cases - tally.answers[0], tally.failures.len());
+    for case in cases.iter().filter(|c| c.second().number != 0).take(3) {
+        let profile = case.inputs[1..].join(&b' ');
+        println!("{path}: refused: {}", escape(&profile));
+    }
     println!(
-        "stock: {} models, {} layouts, {} variants, {} options",
+        "{path}: {} models, {} layouts, {} variants, {} options",
         lists[0],
         lists[1],
         names.variants.len(),
         names.options.len()
     );
-    let tally = run_plain("stock", &cases);
-    let mut refused = 0;
-    for ((number, place), count) in &tally.answers {
-        if *number != 0 {
-            println!("stock: refused {number} at {place}: {count} profiles");
-            refused += count;
-        }
-    }
-    println!("stock: {} profiles, {refused} refused", tally.cases);
-    Ok(tally.failures.len() as u64 + refused)
+    println!(
+        "{path}: {} profiles, {found} disagreements, {refused} refused",
+        tally.cases
+    );
+    Ok(found as u64 + refused)
 }

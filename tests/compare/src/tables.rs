@@ -1,5 +1,5 @@
-//! Part b: 001's tables and document 01's examples, each as a file, a profile
-//! and the strings that they give.
+//! 001's tables and document 01's examples, each as a file, a profile and the
+//! strings that they give.
 
 use crate::case::Case;
 use crate::check::{call, complaints};
@@ -7,6 +7,9 @@ use crate::run::{finish, Failure, Tally};
 use crate::second::{Answer, COMPONENTS};
 
 const ROOM: usize = 65_536;
+
+/// A profile and one component's string.
+type Expected = ([&'static str; 4], &'static str);
 
 const ALL: &[(&str, usize, &str)] = &[
     ("x:all", 1, "x:1"),
@@ -45,10 +48,13 @@ $qwertz = +aliases(qwertz)
 * = +aliases(qwerty)
 ";
 
-const KEYCODES_ROWS: &[(&str, &str, &str)] = &[
-    ("jollasbj", "us", "evdev+jolla(jolla)+aliases(qwerty)"),
-    ("olpc", "be", "evdev+olpc(olpc)+aliases(azerty)"),
-    ("pc", "al", "evdev+aliases(qwertz)"),
+const KEYCODES_ROWS: &[Expected] = &[
+    (
+        ["jollasbj", "us", "", ""],
+        "evdev+jolla(jolla)+aliases(qwerty)",
+    ),
+    (["olpc", "be", "", ""], "evdev+olpc(olpc)+aliases(azerty)"),
+    (["pc", "al", "", ""], "evdev+aliases(qwertz)"),
 ];
 
 const LAYOUTS: &str = "\
@@ -75,11 +81,14 @@ const LAYOUTS_SHORT: &str = "\
 * = +%l[%i]%(v[%i]):%i
 ";
 
-const LAYOUTS_ROWS: &[(&str, &str, &str)] = &[
-    ("us", "", "pc+us"),
-    ("us", "intl", "pc+us(intl)"),
-    ("us,es", "", "pc+us+es:2"),
-    ("us,es,fr", "intl,,bepo", "pc+us(intl)+es:2+fr(bepo):3"),
+const LAYOUTS_ROWS: &[Expected] = &[
+    (["", "us", "", ""], "pc+us"),
+    (["", "us", "intl", ""], "pc+us(intl)"),
+    (["", "us,es", "", ""], "pc+us+es:2"),
+    (
+        ["", "us,es,fr", "intl,,bepo", ""],
+        "pc+us(intl)+es:2+fr(bepo):3",
+    ),
 ];
 
 const OPTIONS: &str = "\
@@ -102,24 +111,24 @@ $azerty caps:digits_row = +capslock(digits_row):1
 // Repeat the previous rules set for indexes 2 to 4
 ";
 
-const OPTIONS_ROWS: &[(&str, &str, &str)] = &[
-    ("be", "caps:digits_row", "pc+be+capslock(digits_row)"),
-    ("gb", "caps:digits_row", "pc+gb"),
-    ("fr", "misc:typo", "pc+fr+typo(base)"),
+const OPTIONS_ROWS: &[Expected] = &[
     (
-        "fr",
-        "misc:typo,caps:digits_row",
+        ["", "be", "", "caps:digits_row"],
+        "pc+be+capslock(digits_row)",
+    ),
+    (["", "gb", "", "caps:digits_row"], "pc+gb"),
+    (["", "fr", "", "misc:typo"], "pc+fr+typo(base)"),
+    (
+        ["", "fr", "", "misc:typo,caps:digits_row"],
         "pc+fr+capslock(digits_row)+typo(base)",
     ),
     (
-        "fr",
-        "lv3:ralt_alt,caps:digits_row,misc:typo",
+        ["", "fr", "", "lv3:ralt_alt,caps:digits_row,misc:typo"],
         "pc+fr+capslock(digits_row)+typo(base)+level3(ralt_alt)",
     ),
     // As corrected by document 01.
     (
-        "fr,gb",
-        "caps:digits_row,misc:typo",
+        ["", "fr,gb", "", "caps:digits_row,misc:typo"],
         "pc+fr+gb+capslock(digits_row):1+typo(base):1",
     ),
 ];
@@ -151,23 +160,76 @@ $azerty caps:digits_row = +capslock(digits_row):%i
 ";
 
 /// What both shorter forms of the last example give.
-const OPTIONS_SHORT_ROWS: &[(&str, &str, &str)] = &[
-    ("be", "caps:digits_row", "pc+be+capslock(digits_row):1"),
-    ("gb", "caps:digits_row", "pc+gb"),
-    ("fr", "misc:typo", "pc+fr+typo(base):1"),
+const OPTIONS_SHORT_ROWS: &[Expected] = &[
     (
-        "fr",
-        "misc:typo,caps:digits_row",
+        ["", "be", "", "caps:digits_row"],
+        "pc+be+capslock(digits_row):1",
+    ),
+    (["", "gb", "", "caps:digits_row"], "pc+gb"),
+    (["", "fr", "", "misc:typo"], "pc+fr+typo(base):1"),
+    (
+        ["", "fr", "", "misc:typo,caps:digits_row"],
         "pc+fr+capslock(digits_row):1+typo(base):1",
     ),
     (
-        "fr,gb",
-        "caps:digits_row,misc:typo",
+        ["", "fr", "", "lv3:ralt_alt,caps:digits_row,misc:typo"],
+        "pc+fr+capslock(digits_row):1+typo(base):1+level3(ralt_alt):1",
+    ),
+    (
+        ["", "fr,gb", "", "caps:digits_row,misc:typo"],
         "pc+fr+gb+capslock(digits_row):1+typo(base):1+typo(base):2",
     ),
 ];
 
-const PROGRAM: &str = "\
+/// 001's first sets, without and with a group.
+const FORMAT: &str = "\
+// This is a comment
+! option = symbols
+ctrl:nocaps = +ctrl(nocaps)
+compose:menu = +compose(menu)
+! layout option = symbols
+be caps:digits_row = +capslock(digits_row)
+fr caps:digits_row = +capslock(digits_row)
+";
+
+const FORMAT_GROUP: &str = "\
+! $azerty = be fr
+! option = symbols
+ctrl:nocaps = +ctrl(nocaps)
+compose:menu = +compose(menu)
+! layout option = symbols
+$azerty caps:digits_row = +capslock(digits_row)
+";
+
+const FORMAT_ROWS: &[Expected] = &[
+    (
+        ["", "us", "", "compose:menu,ctrl:nocaps"],
+        "+ctrl(nocaps)+compose(menu)",
+    ),
+    (["", "be", "", "caps:digits_row"], "+capslock(digits_row)"),
+    (
+        ["", "fr", "", "caps:digits_row,ctrl:nocaps"],
+        "+ctrl(nocaps)+capslock(digits_row)",
+    ),
+    (["", "us", "", "caps:digits_row"], ""),
+];
+
+/// Forms of a rules file, the component looked at, and its string for each
+/// profile; all other components are empty.
+const TABLES: &[(&[&str], &str, &[Expected])] = &[
+    (&[KEYCODES], "keycodes", KEYCODES_ROWS),
+    (&[LAYOUTS, LAYOUTS_SHORT], "symbols", LAYOUTS_ROWS),
+    (&[OPTIONS], "symbols", OPTIONS_ROWS),
+    (
+        &[OPTIONS_SHORT, OPTIONS_RANGE],
+        "symbols",
+        OPTIONS_SHORT_ROWS,
+    ),
+    (&[FORMAT, FORMAT_GROUP], "symbols", FORMAT_ROWS),
+];
+
+/// The example of document 01's program.
+pub const PROGRAM: &str = "\
 ! $west = fr be
 ! model = keycodes
 desk9 = desk(nine)
@@ -181,6 +243,8 @@ $west = +%l[%i]%(v[%i]):%i
 ! option = symbols types
 ctrl:nocaps = +ctrl(nocaps):all |caps
 ";
+
+pub const PROGRAM_PROFILE: [&str; 4] = ["pc", "us,fr", ",bepo", "ctrl:nocaps"];
 
 const PROGRAM_STRINGS: [&str; 5] = [
     "evdev",
@@ -229,21 +293,12 @@ fn table_rows() -> Vec<Row> {
         let (rules, string) = (rules.replace('+', "|"), string.replace('+', "|"));
         rows.push(symbols(&rules, ["pc", "us", "", ""], &string));
     }
-    for (model, layout, string) in KEYCODES_ROWS {
-        let case = Case::text(KEYCODES, [model, layout, "", ""], ROOM);
-        rows.push(Row::Strings(case, strings("keycodes", string)));
-    }
-    for rules in [LAYOUTS, LAYOUTS_SHORT] {
-        for (layouts, variants, string) in LAYOUTS_ROWS {
-            rows.push(symbols(rules, ["pc105", layouts, variants, ""], string));
-        }
-    }
-    for (layouts, options, string) in OPTIONS_ROWS {
-        rows.push(symbols(OPTIONS, ["pc105", layouts, "", options], string));
-    }
-    for rules in [OPTIONS_SHORT, OPTIONS_RANGE] {
-        for (layouts, options, string) in OPTIONS_SHORT_ROWS {
-            rows.push(symbols(rules, ["pc105", layouts, "", options], string));
+    for (forms, component, expected) in TABLES {
+        for rules in *forms {
+            for (profile, string) in *expected {
+                let case = Case::text(rules, *profile, ROOM);
+                rows.push(Row::Strings(case, strings(component, string)));
+            }
         }
     }
     rows
@@ -253,16 +308,10 @@ fn example_rows() -> Vec<Row> {
     let single = "! layout = symbols\n* = pc+%l%(v)\n";
     let five = "! model = symbols\n* = abcde\n";
     let long = |length: usize| format!("! model = symbols\n* = {}\n", "x".repeat(length));
-    let profile = ["pc", "us,fr", ",bepo", "ctrl:nocaps"];
-    let program = Case::text(PROGRAM, profile, ROOM);
+    let program = Case::text(PROGRAM, PROGRAM_PROFILE, ROOM);
     vec![
         symbols(single, ["", "us", "", ""], "pc+us"),
         symbols(single, ["", "us", "intl", ""], "pc+us(intl)"),
-        symbols(
-            "! layout[any] = symbols\n* = %l[1]\n",
-            ["", "us", "", ""],
-            "",
-        ),
         symbols("! model = symbols\n* = %l[1]\n", ["", "us", "", ""], ""),
         symbols("! model = symbols\n* = %l\n", ["", "us,il", "", ""], ""),
         Row::Strings(Case::text(five, [""; 4], 5), strings("symbols", "abcde")),

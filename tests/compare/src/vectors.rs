@@ -1,24 +1,26 @@
-//! Part a: the vectors. Both resolvers are compared with the written answers.
-
-use std::fs;
-use std::path::Path;
+//! The vectors. Both resolvers are compared with the written answers.
 
 use crate::case::{answer_row, read_row, Case};
 use crate::check::complaints;
 use crate::run::{finish, spread, Failure, Tally};
 use crate::second::Answer;
 
-const FILES: [&str; 2] = ["base-edges.tsv", "base-random.tsv"];
+const FILES: [(&str, &[u8]); 2] = [
+    (
+        "base-edges.tsv",
+        include_bytes!("../vectors/base-edges.tsv"),
+    ),
+    (
+        "base-random.tsv",
+        include_bytes!("../vectors/base-random.tsv"),
+    ),
+];
 
-fn read(path: &Path) -> Result<Vec<(Case, Answer)>, String> {
-    let bytes = fs::read(path).map_err(|e| format!("{}: {e}", path.display()))?;
+fn read(name: &str, bytes: &[u8]) -> Result<Vec<(Case, Answer)>, String> {
     let mut rows = Vec::new();
-    for (i, line) in bytes.split(|&b| b == b'\n').enumerate() {
-        if line.is_empty() {
-            continue;
-        }
-        let row = read_row(line);
-        rows.push(row.ok_or(format!("{}: bad line {}", path.display(), i + 1))?);
+    let lines = bytes.strip_suffix(b"\n").unwrap_or(bytes);
+    for (i, line) in lines.split(|&b| b == b'\n').enumerate() {
+        rows.push(read_row(line).ok_or(format!("{name}: bad line {}", i + 1))?);
     }
     Ok(rows)
 }
@@ -35,16 +37,16 @@ fn compare(index: u64, case: &Case, expected: &Answer, tally: &mut Tally) {
     }
 }
 
-pub fn run(folder: &Path) -> Result<Tally, String> {
+pub fn run() -> Result<Tally, String> {
     let mut all = Tally::default();
-    for file in FILES {
-        let rows = read(&folder.join(file))?;
+    for (name, bytes) in FILES {
+        let rows = read(name, bytes)?;
         let work = |index: u64, tally: &mut Tally| {
             let (case, expected) = &rows[index as usize];
             compare(index + 1, case, expected, tally);
         };
         let tally = Tally::sum(spread(rows.len() as u64, &work));
-        all.add(finish(&format!("vectors {file}"), tally));
+        all.add(finish(name, tally));
     }
     Ok(all)
 }
