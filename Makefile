@@ -1,6 +1,6 @@
 # `make` proves every crate, builds the static library, the program and the C example, and runs document 01's example; `make test` is the gate;
 # `make stock` compares the library with the second resolver on the rules files of Debian's xkb-data, which it installs if they are not there.
-.PHONY: all test stock clean
+.PHONY: all test bench stock clean
 
 CFLAGS = -O2 -Wall -Wextra -std=c99
 STOCK = /usr/share/X11/xkb/rules
@@ -23,3 +23,9 @@ stock:
 
 clean:
 	rm -rf target
+
+# What a resolve costs, on Debian's stock rules files and on hard ones: docs/PERFORMANCE.md.
+bench:
+	test -d /usr/share/X11/xkb/rules || apt-get install -y xkb-data
+	rt staticlib xkbrules
+	python3 bench/run
