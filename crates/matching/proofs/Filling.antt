@@ -1,25 +1,19 @@
 -- A group's row, filled word by word.
 use Prim.Native.Nat.{ℕ, zero, suc, _+_, _*_, _-_, _≤_, _<_}
-use native.Mathlib.Nat.{zero-add, add-zero}
 use native.Mathlib.Omega.{arith}
 use mathlib.Core.Path.{_≡_, refl, sym, ap, _∙_}
 use mathlib.Core.List.{List, [], _∷_}
 use mathlib.Core.Bool.{Bool, true, false, _||_, cond, or-assoc}
-use mathlib.Core.Logic.{_⊎_, inl, inr, ⊎-elim}
-use lib.ListN.{length, getD, set, drop, length-set, drop-of-length-le}
+use lib.ListN.{length, getD, set, drop, length-set}
 use lib.Seq.{getD-set-same, getD-set-other}
 use lib.Dec.{eqb, leb, ltb}
 use borrow.Author.Tests.{ne-eqb, eq-eqb, eqb-false, le-leb, lt-leb, ltb-true, ltb-false}
 use Rattle.text.specs.Bytes.{Text, Words, same, anyOf, part}
 use Rattle.text.specs.Reading.{left, FoundWord, NoWord}
 use Rattle.text.proofs.Lists.{both-ways, same-eq}
-use Rattle.text.proofs.Comparing.{drop-at}
-use Rattle.text.proofs.Positions.{length-part}
-use Rattle.profile.specs.Splitting.{behind, FieldEnd}
-use Rattle.profile.proofs.Splitting.{behind-nil, behind-cons, getD-nil}
-use Rattle.profile.specs.Profile.{Texts, Profile, profileOf, fields, optionsOf}
+use Rattle.profile.specs.Profile.{Texts, Profile, textsOf, profileOf, fields, optionsOf}
 use Rattle.matching.specs.Groups.{asked, Rowed}
-use Rattle.matching.specs.Rows.{FieldsMarked, Marked, Cleared, RowFilled}
+use Rattle.matching.specs.Rows.{HasValues, MarkedFor, QuestionMarked, Marked, Cleared, RowFilled}
 use Rattle.matching.proofs.GroupRows.{asked-none}
 use Rattle.matching.proofs.Matches.{any-alike, option-never}
 
@@ -163,22 +157,6 @@ or-yes : (a : Bool) → true ≡ (a || true)
 or-yes true = refl
 or-yes false = refl
 
--- a word held against the fields of a text
-
-none-same : (w : Text) → 1 ≤ length w → same [] w ≡ false
-unfolding same
-none-same [] h = absurd (omega arith)
-none-same (b ∷ w) h = refl
-
--- the loop of `mark_fields`: the field of number j begins at `start`
-pub record FieldsOn (s w : Text) (rows rows′ : List Bool) (g b start j : ℕ) : Type 0 where
-  pub size : length rows′ ≡ 640
-  pub high : start ≤ length s
-  pub rest : (m : ℕ) → getD (fields s) (j + m) [] ≡ getD (fields (drop start s)) m []
-  pub old : (i : ℕ) → i < 10 * g → getD rows′ i false ≡ getD rows i false
-  pub done : (i : ℕ) → i < j → getD rows′ (10 * g + (b + i)) false ≡ (getD rows (10 * g + (b + i)) false || same (getD (fields s) i []) w)
-  pub other : (i : ℕ) → (i < b) ⊎ (b + j ≤ i) → getD rows′ (10 * g + i) false ≡ getD rows (10 * g + i) false
-
 either-way : {C : Type 0} (i j : ℕ) → (i < j → C) → (j ≤ i → C) → C
 either-way {C = C} i j f h = go (ltb i j) refl
   where
@@ -186,101 +164,19 @@ either-way {C = C} i j f h = go (ltb i j) refl
     go true e = f (ltb-true i j e)
     go false e = h (ltb-false i j e)
 
-module _ (s w : Text) (rows : List Bool) (g b : ℕ) where
-  pub fields-start : length rows ≡ 640 → FieldsOn s w rows rows g b 0 0
-  fields-start z =
+-- one question
+module _ (rows : List Bool) (g j : ℕ) where
+  pub question-yes : length rows ≡ 640 → g < 64 → j < 10 → (b : Bool) → b ≡ true → QuestionMarked rows (set rows (10 * g + j) true) g j b
+  question-yes z h l b t =
       record {
-        size = z;
-        high = omega arith;
-        rest = λ m. rw (zero-add m) refl;
-        old = λ i l. refl;
-        done = λ i l. absurd (omega arith);
-        other = λ i l. refl;
+        size = put-size rows g j true z;
+        old = λ i m. put-before rows g j true i m;
+        this = put-here rows g j true z h l ∙ rw t (or-yes (getD rows (10 * g + j) false));
+        other = λ i n. put-other rows g j true i n;
       }
 
-  module _ (start j : ℕ) (rows₁ : List Bool) (v : FieldsOn s w rows rows₁ g b start j) (e : ℕ) (f : FieldEnd s start e) where
-    here : getD (fields s) j [] ≡ part s start e
-    here = ap (λ (k : ℕ). getD (fields s) k []) (sym (add-zero j)) ∙ (v .rest 0 ∙ rw (f .split) refl)
-
-    later : (m : ℕ) → getD (fields s) (j + 1 + m) [] ≡ getD (behind (drop e s)) m []
-    later m = let z : j + 1 + m ≡ j + suc m = omega arith in rw z (v .rest (suc m) ∙ rw (f .split) refl)
-
-    -- the question of this field, answered in the row
-    pub record FieldAnswered (rows₂ : List Bool) : Type 0 where
-      pub size : length rows₂ ≡ 640
-      pub old : (i : ℕ) → i < 10 * g → getD rows₂ i false ≡ getD rows₁ i false
-      pub this : getD rows₂ (10 * g + (b + j)) false ≡ (getD rows₁ (10 * g + (b + j)) false || same (part s start e) w)
-      pub other : (i : ℕ) → (i ≡ b + j → ⊥) → getD rows₂ (10 * g + i) false ≡ getD rows₁ (10 * g + i) false
-
-    answer-yes : g < 64 → b + j < 10 → same (part s start e) w ≡ true → FieldAnswered (set rows₁ (10 * g + (b + j)) true)
-    answer-yes h l t =
-        record {
-          size = put-size rows₁ g (b + j) true (v .size);
-          old = λ i m. put-before rows₁ g (b + j) true i m;
-          this = put-here rows₁ g (b + j) true (v .size) h l ∙ rw t (or-yes (getD rows₁ (10 * g + (b + j)) false));
-          other = λ i n. put-other rows₁ g (b + j) true i n;
-        }
-
-    answer-no : same (part s start e) w ≡ false → FieldAnswered rows₁
-    answer-no t = record { size = v .size; old = λ i m. refl; this = rw t (or-none (getD rows₁ (10 * g + (b + j)) false)); other = λ i n. refl }
-
-    pub answered : g < 64 → b + j < 10 → (rows₂ : List Bool) →
-        ((same (part s start e) w ≡ true) × (rows₂ ≡ set rows₁ (10 * g + (b + j)) true)) ⊎ ((same (part s start e) w ≡ false) × (rows₂ ≡ rows₁)) → FieldAnswered rows₂
-    answered h l rows₂ =
-        ⊎-elim
-        (λ (z : (same (part s start e) w ≡ true) × (rows₂ ≡ set rows₁ (10 * g + (b + j)) true)). rw (z .1) (answer-yes h l (z .0)))
-        (λ (z : (same (part s start e) w ≡ false) × (rows₂ ≡ rows₁)). rw (z .1) (answer-no (z .0)))
-
-    module _ (rows₂ : List Bool) (a : FieldAnswered rows₂) where
-      done-more : (i : ℕ) → i < j + 1 → getD rows₂ (10 * g + (b + i)) false ≡ (getD rows (10 * g + (b + i)) false || same (getD (fields s) i []) w)
-      done-more i l =
-          either-way i j
-          (λ (k : i < j). a .other (b + i) (λ (z : b + i ≡ b + j). omega arith) ∙ v .done i k)
-          (λ (k : j ≤ i). let z : i ≡ j = omega arith in rw (z, here) (a .this ∙ ap (λ (x : Bool). x || same (part s start e) w) (v .other (b + j) (inr (omega arith)))))
-
-      other-more : (i : ℕ) → (i < b) ⊎ (b + (j + 1) ≤ i) → getD rows₂ (10 * g + i) false ≡ getD rows (10 * g + i) false
-      other-more i o =
-          ⊎-elim
-          (λ (k : i < b). a .other i (λ (z : i ≡ b + j). omega arith) ∙ v .other i (inl k))
-          (λ (k : b + (j + 1) ≤ i). a .other i (λ (z : i ≡ b + j). omega arith) ∙ v .other i (inr (omega arith)))
-          o
-
-      pub fields-more : e < length s → FieldsOn s w rows rows₂ g b (e + 1) (j + 1)
-      fields-more h =
-          record {
-            size = a .size;
-            high = omega arith;
-            rest = λ m. later m ∙ rw (drop-at s e h, behind-cons) refl;
-            old = λ i m. a .old i m ∙ v .old i m;
-            done = done-more;
-            other = other-more;
-          }
-
-      -- the text ends: the fields behind are empty, and no word is
-      pub fields-over : 1 ≤ length w → j < 4 → length s ≤ e → FieldsMarked s w rows rows₂ g b
-      fields-over n l h =
-          record {
-            size = a .size;
-            old = λ i m. a .old i m ∙ v .old i m;
-            new = λ i m. either-way i (j + 1) (done-more i) (λ (k : j + 1 ≤ i). behind-none i k);
-            other = λ i o. other-more i (⊎-elim (λ (k : i < b). inl k) (λ (k : b + 4 ≤ i). inr (omega arith)) o);
-          }
-        where
-          behind-none : (i : ℕ) → j + 1 ≤ i → getD rows₂ (10 * g + (b + i)) false ≡ (getD rows (10 * g + (b + i)) false || same (getD (fields s) i []) w)
-          behind-none i k =
-              let z : j + 1 + (i - (j + 1)) ≡ i = omega arith in
-              let y₀ : getD (behind (drop e s)) (i - (j + 1)) [] ≡ [] = rw (drop-of-length-le s h, behind-nil) (getD-nil (i - (j + 1))) in
-              let y : getD (fields s) i [] ≡ [] = rw z at (later (i - (j + 1)) ∙ y₀) in
-              rw (y, none-same w n) (other-more (b + i) (inr (omega arith)) ∙ or-none (getD rows (10 * g + (b + i)) false))
-
-  pub fields-end : (start j : ℕ) (rows₁ : List Bool) → 4 ≤ j → FieldsOn s w rows rows₁ g b start j → j ≤ 4 → FieldsMarked s w rows rows₁ g b
-  fields-end start j rows₁ h v l =
-      record {
-        size = v .size;
-        old = v .old;
-        new = λ i m. v .done i (omega arith);
-        other = λ i o. v .other i (⊎-elim (λ (k : i < b). inl k) (λ (k : b + 4 ≤ i). inr (omega arith)) o);
-      }
+  pub question-no : length rows ≡ 640 → (b : Bool) → b ≡ false → QuestionMarked rows rows g j b
+  question-no z b t = record { size = z; old = λ i m. refl; this = rw t (or-none (getD rows (10 * g + j) false)); other = λ i n. refl }
 
 -- the questions of one word, those below j answered
 pub record Marking (p : Profile) (ms : Words) (rows rows′ : List Bool) (g j : ℕ) : Type 0 where
@@ -326,17 +222,33 @@ module _ (p : Profile) (ms : Words) (rows : List Bool) (g : ℕ) where
     pub marking-end : 10 ≤ j → Marked p ms rows rows′ g
     marking-end h = record { size = v .size; old = v .old; new = λ i l. v .done i (omega arith) }
 
--- the first question, of the model
-pub marking-model : (x : Texts) (w : Text) (rows rows₁ : List Bool) (g : ℕ) → length rows ≡ 640 → g < 64 →
-    ((same (x .model) w ≡ true) × (rows₁ ≡ set rows (10 * g) true)) ⊎ ((same (x .model) w ≡ false) × (rows₁ ≡ rows)) →
-    Marking (profileOf x) (w ∷ []) rows rows₁ g 1
-marking-model x w rows rows₁ g z h =
-    ⊎-elim
-    (λ (c : (same (x .model) w ≡ true) × (rows₁ ≡ set rows (10 * g) true)).
-    let o : 10 * g + 0 ≡ 10 * g = omega arith in
-    rw (c .1) (rw o at (marking-yes (profileOf x) (w ∷ []) rows g rows 0 (marking-start (profileOf x) (w ∷ []) rows g z) h (omega arith) (sym (ask-model x w 0 refl) ∙ c .0))))
-    (λ (c : (same (x .model) w ≡ false) × (rows₁ ≡ rows)).
-    rw (c .1) (marking-no (profileOf x) (w ∷ []) rows g rows 0 (marking-start (profileOf x) (w ∷ []) rows g z) (omega arith) (sym (ask-model x w 0 refl) ∙ c .0)))
+-- one question more
+pub marking-one : (p : Profile) (ms : Words) (rows : List Bool) (g j : ℕ) (r₁ r₂ : List Bool) (b : Bool) → j < 10 → b ≡ asked p j ms →
+    QuestionMarked r₁ r₂ g j b → Marking p ms rows r₁ g j → Marking p ms rows r₂ g (j + 1)
+marking-one p ms rows g j r₁ r₂ b l e u v =
+    record {
+      size = u .size;
+      high = omega arith;
+      old = λ i m. u .old i m ∙ v .old i m;
+      done = λ i m. either-way i j (λ (k : i < j). u .other i (λ (z : i ≡ j). omega arith) ∙ v .done i k) (λ (k : j ≤ i). let z : i ≡ j = omega arith in rw z here);
+      rest = λ i m. u .other i (λ (z : i ≡ j). omega arith) ∙ v .rest i (omega arith);
+    }
+  where
+    here : getD r₂ (10 * g + j) false ≡ (getD rows (10 * g + j) false || asked p j ms)
+    here = u .this ∙ rw (e, v .rest j (omega arith)) refl
+
+-- the questions of a profile with these values
+module _ (x : Texts) (vs : List Text) (o : Text) (h : HasValues x vs o) (w : Text) where
+  pub value-model : same (getD vs 0 []) w ≡ asked (profileOf x) 0 (w ∷ [])
+  value-model = rw (← h .model) (ask-model x w 0 refl)
+
+  pub value-layout : (j : ℕ) → j < 4 → same (getD vs (1 + j) []) w ≡ asked (profileOf x) (1 + j) (w ∷ [])
+  value-layout j l = let z : 1 + j - 1 ≡ j = omega arith in ask-layout x w (1 + j) (λ (e : 1 + j ≡ 0). omega arith) (omega arith) _ (rw z (sym (h .layouts j l)))
+
+  pub value-variant : (j : ℕ) → j < 4 → same (getD vs (5 + j) []) w ≡ asked (profileOf x) (5 + j) (w ∷ [])
+  value-variant j l =
+      let z : 5 + j - 5 ≡ j = omega arith in
+      ask-variant x w (5 + j) (λ (e : 5 + j ≡ 0). omega arith) (omega arith) (omega arith) _ (rw z (sym (h .variants j l)))
 
 -- the last question, of the options
 module _ (x : Texts) (w : Text) (rows r : List Bool) (g : ℕ) (v : Marking (profileOf x) (w ∷ []) rows r g 9) where
@@ -349,31 +261,6 @@ module _ (x : Texts) (w : Text) (rows r : List Bool) (g : ℕ) (v : Marking (pro
 
   pub marked-no : anyOf (same w) (optionsOf (x .options)) ≡ false → Marked (profileOf x) (w ∷ []) rows r g
   marked-no a = marking-end (profileOf x) (w ∷ []) rows g r 10 (marking-no (profileOf x) (w ∷ []) rows g r 9 v (omega arith) (sym last ∙ a)) (omega arith)
-
--- four questions more, by the fields of the layouts or of the variants
-module _ (x : Texts) (w : Text) (rows : List Bool) (g : ℕ) (s : Text) (b : ℕ)
-    (ask : (i : ℕ) → b ≤ i → i < b + 4 → same (getD (fields s) (i - b) []) w ≡ asked (profileOf x) i (w ∷ [])) where
-  pub marking-fields : (r₁ r₂ : List Bool) → b ≤ 6 → Marking (profileOf x) (w ∷ []) rows r₁ g b → FieldsMarked s w r₁ r₂ g b → Marking (profileOf x) (w ∷ []) rows r₂ g (b + 4)
-  marking-fields r₁ r₂ few v u =
-      record {
-        size = u .size;
-        high = omega arith;
-        old = λ i l. u .old i l ∙ v .old i l;
-        done = λ i l. either-way i b (λ (k : i < b). u .other i (inl k) ∙ v .done i k) (λ (k : b ≤ i). this i k l);
-        rest = λ i l. u .other i (inr l) ∙ v .rest i (omega arith);
-      }
-    where
-      this : (i : ℕ) → b ≤ i → i < b + 4 → getD r₂ (10 * g + i) false ≡ (getD rows (10 * g + i) false || asked (profileOf x) i (w ∷ []))
-      this i k l =
-          let z : b + (i - b) ≡ i = omega arith in
-          let y = rw z at (u .new (i - b) (omega arith)) in
-          y ∙ rw (ask i k l, v .rest i k) refl
-
-pub ask-layouts : (x : Texts) (w : Text) (i : ℕ) → 1 ≤ i → i < 5 → same (getD (fields (x .layouts)) (i - 1) []) w ≡ asked (profileOf x) i (w ∷ [])
-ask-layouts x w i h l = ask-layout x w i (λ (e : i ≡ 0). omega arith) (omega arith) _ refl
-
-pub ask-variants : (x : Texts) (w : Text) (i : ℕ) → 5 ≤ i → i < 9 → same (getD (fields (x .variants)) (i - 5) []) w ≡ asked (profileOf x) i (w ∷ [])
-ask-variants x w i h l = ask-variant x w i (λ (e : i ≡ 0). omega arith) (omega arith) (omega arith) _ refl
 
 -- words one after the other
 
@@ -394,9 +281,6 @@ marked-then x w ms r₀ r₁ r₂ g u v =
           ∙ (or-assoc (getD r₀ (10 * g + j) false) (asked (profileOf x) j (w ∷ [])) (asked (profileOf x) j ms)
           ∙ ap (λ (b : Bool). getD r₀ (10 * g + j) false || b) (sym (asked-more x j w ms))));
     }
-
-pub found-some : (s : Text) (i l a e m f : ℕ) → FoundWord s i l a e m f → 1 ≤ length (part s a e)
-found-some s i l a e m f u = omega (arith, length-part s a e (u .high), u .some)
 
 -- the loop of `mark_words`: what comes of the words from i on comes of all
 pub record WordsOn (s : Text) (at : ℕ) (x : Texts) (rows rows′ : List Bool) (g i l : ℕ) : Type 0 where
@@ -452,3 +336,48 @@ rowed-more p s t t′ rows rows′ n at u v o e = record { size = v .size; row =
 
 pub rowed-none : (p : Profile) (s : Text) (t : List ℕ) (rows : List Bool) → length rows ≡ 640 → Rowed p s t rows 0
 rowed-none p s t rows z = record { size = z; row = λ g j l m. absurd (omega arith) }
+
+-- the loop of `mark_words`, for whichever texts have the values
+pub record WordsFor (s : Text) (at : ℕ) (vs : List Text) (o : Text) (rows rows′ : List Bool) (g i l : ℕ) : Type 0 where
+  pub high : i ≤ length s
+  pub few : l ≤ i + 1
+  pub size : length rows′ ≡ 640
+  pub on : (x : Texts) → HasValues x vs o → WordsOn s at x rows rows′ g i l
+
+module _ (s : Text) (at : ℕ) (vs : List Text) (o : Text) (rows : List Bool) (g : ℕ) where
+  pub words-for-start : (l : ℕ) → at ≤ length s → l ≤ at + 1 → length rows ≡ 640 → WordsFor s at vs o rows rows g at l
+  words-for-start l h f z = record { high = h; few = f; size = z; on = λ x v. words-start s at x rows g l h f z }
+
+  module _ (rows′ : List Bool) (i l : ℕ) (v : WordsFor s at vs o rows rows′ g i l) where
+    pub words-for-more : (a e m f : ℕ) (r : List Bool) → FoundWord s i l a e m f → MarkedFor vs o (part s a e ∷ []) rows′ r g → WordsFor s at vs o rows r g e m
+    words-for-more a e m f r u w =
+        record {
+          high = u .high;
+          few = u .few;
+          size = w .size;
+          on = λ x h. words-more s at x rows g rows′ i l (v .on x h) a e m f r u (w .marked x h);
+        }
+
+    pub words-for-end : (q m : ℕ) → NoWord s i l q m → MarkedFor vs o (left s at) rows rows′ g
+    words-for-end q m u = record { size = v .size; marked = λ x h. words-end s at x rows g rows′ i l (v .on x h) q m u }
+
+-- the values of four texts
+pub has-values : (m l v o l₁ l₂ l₃ l₄ v₁ v₂ v₃ v₄ : Text) →
+    l₁ ≡ getD (fields l) 0 [] → l₂ ≡ getD (fields l) 1 [] → l₃ ≡ getD (fields l) 2 [] → l₄ ≡ getD (fields l) 3 [] →
+    v₁ ≡ getD (fields v) 0 [] → v₂ ≡ getD (fields v) 1 [] → v₃ ≡ getD (fields v) 2 [] → v₄ ≡ getD (fields v) 3 [] →
+    HasValues (textsOf m l v o) (m ∷ l₁ ∷ l₂ ∷ l₃ ∷ l₄ ∷ v₁ ∷ v₂ ∷ v₃ ∷ v₄ ∷ []) o
+has-values m l v o l₁ l₂ l₃ l₄ v₁ v₂ v₃ v₄ a b c d e f g h = record { model = refl; layouts = lay; variants = var; options = refl }
+  where
+    lay : (j : ℕ) → j < 4 → getD (fields l) j [] ≡ getD (m ∷ l₁ ∷ l₂ ∷ l₃ ∷ l₄ ∷ v₁ ∷ v₂ ∷ v₃ ∷ v₄ ∷ []) (1 + j) []
+    lay zero k = sym a
+    lay (suc zero) k = sym b
+    lay (suc (suc zero)) k = sym c
+    lay (suc (suc (suc zero))) k = sym d
+    lay (suc (suc (suc (suc j)))) k = absurd (omega arith)
+
+    var : (j : ℕ) → j < 4 → getD (fields v) j [] ≡ getD (m ∷ l₁ ∷ l₂ ∷ l₃ ∷ l₄ ∷ v₁ ∷ v₂ ∷ v₃ ∷ v₄ ∷ []) (5 + j) []
+    var zero k = sym e
+    var (suc zero) k = sym f
+    var (suc (suc zero)) k = sym g
+    var (suc (suc (suc zero))) k = sym h
+    var (suc (suc (suc (suc j)))) k = absurd (omega arith)

@@ -1,14 +1,13 @@
 -- What the readers and the writer of the groups' rows promise.
-use Prim.Native.Nat.{ℕ, _+_, _*_, _-_, _≤_, _<_}
+use Prim.Native.Nat.{ℕ, _+_, _*_, _-_, _<_}
 use mathlib.Core.Path.{_≡_}
 use mathlib.Core.List.{List, [], _∷_}
 use mathlib.Core.Bool.{Bool, true, false, not, _||_, cond}
-use mathlib.Core.Logic.{_⊎_}
 use lib.Dec.{eqb}
 use lib.ListN.{length, getD, drop}
 use Rattle.text.specs.Bytes.{Text, Words, same, empty, rest, anyOf}
 use Rattle.text.specs.Reading.{left}
-use Rattle.profile.specs.Profile.{Profile, fields}
+use Rattle.profile.specs.Profile.{Texts, Profile, fields, profileOf}
 use Rattle.rules.specs.Words.{hasDollar, isStar}
 use Rattle.answers.specs.Matching.{members, wordMatches, valueMatches}
 use Rattle.matching.specs.Groups.{groupsAt, asked, Rowed}
@@ -56,9 +55,21 @@ pub record RowFilled (s : Text) (at : ℕ) (p : Profile) (rows rows′ : List Bo
   pub old : (i : ℕ) → i < 10 * g → getD rows′ i false ≡ getD rows i false
   pub new : (j : ℕ) → j < 10 → getD rows′ (10 * g + j) false ≡ asked p j (drop 1 (left s at))
 
--- row g after a word is held against the first four fields of a text, from question b on
-pub record FieldsMarked (s w : Text) (rows rows′ : List Bool) (g b : ℕ) : Type 0 where
+-- The model, four layouts, four variants, in this order, and the options are those of the four texts.
+pub record HasValues (x : Texts) (vs : List Text) (o : Text) : Type 0 where
+  pub model : x .model ≡ getD vs 0 []
+  pub layouts : (j : ℕ) → j < 4 → getD (fields (x .layouts)) j [] ≡ getD vs (1 + j) []
+  pub variants : (j : ℕ) → j < 4 → getD (fields (x .variants)) j [] ≡ getD vs (5 + j) []
+  pub options : x .options ≡ o
+
+-- row g after words are asked of a profile with these values
+pub record MarkedFor (vs : List Text) (o : Text) (ms : Words) (rows rows′ : List Bool) (g : ℕ) : Type 0 where
+  pub size : length rows′ ≡ 640
+  pub marked : (x : Texts) → HasValues x vs o → Marked (profileOf x) ms rows rows′ g
+
+-- row g after its question j: an answer that was yes stays
+pub record QuestionMarked (rows rows′ : List Bool) (g j : ℕ) (b : Bool) : Type 0 where
   pub size : length rows′ ≡ 640
   pub old : (i : ℕ) → i < 10 * g → getD rows′ i false ≡ getD rows i false
-  pub new : (j : ℕ) → j < 4 → getD rows′ (10 * g + (b + j)) false ≡ (getD rows (10 * g + (b + j)) false || same (getD (fields s) j []) w)
-  pub other : (i : ℕ) → (i < b) ⊎ (b + 4 ≤ i) → getD rows′ (10 * g + i) false ≡ getD rows (10 * g + i) false
+  pub this : getD rows′ (10 * g + j) false ≡ (getD rows (10 * g + j) false || b)
+  pub other : (i : ℕ) → (i ≡ j → ⊥) → getD rows′ (10 * g + i) false ≡ getD rows (10 * g + i) false

@@ -3,14 +3,15 @@ ghost use mathlib.Core.Path.{_≡_};
 ghost use mathlib.Core.List.{[], _∷_};
 ghost use Prim.Native.Nat.{_<_, _≤_};
 ghost use lib.ListN.{length};
+ghost use Rattle.text.specs.Bytes.{same as sameText};
 ghost use Rattle.text.specs.Limits.{mostOptions, mostGroups};
 ghost use Rattle.text.specs.Reading.{left, Table, Fenced, Within};
 ghost use Rattle.profile.specs.Profile.{textsOf, profileOf, optionsOf};
 ghost use Rattle.profile.specs.Listing.{Listed};
 ghost use Rattle.rules.specs.Checking.{Named};
 ghost use Rattle.matching.specs.Groups.{Rowed, Noted};
-ghost use Rattle.matching.specs.Rows.{Told, ofGroup, FieldsMarked, Marked, Cleared, RowFilled};
-use profile::fields::field_end;
+ghost use Rattle.matching.specs.Rows.{Told, ofGroup, MarkedFor, QuestionMarked, Cleared, RowFilled};
+use profile::fields::field;
 use profile::table::has_option;
 use text::Next;
 use text::compare::same;
@@ -41,48 +42,47 @@ pub fn group_asked(
     false
 }
 
-// A word held against the first four fields of a text: row g from question b on.
-fn mark_fields(word: &[u8], text: &[u8], rows: &mut [bool; 640], g: usize, b: usize)
-    requires { ⌜ (1 ≤ length (now word)) × (g < 64) × (b ≤ 6) × (length (now rows) ≡ 640) ⌝ }
-    ensures { λ _. ⌜ FieldsMarked (now (text .entry)) (now (word .entry)) (now (rows .entry)) (now (rows .exit)) g b ⌝ }
+// Question j of row g, for one word: whether it is the value.
+fn mark(value: &[u8], word: &[u8], rows: &mut [bool; 640], g: usize, j: usize)
+    requires { ⌜ (g < 64) × (j < 10) × (length (now rows) ≡ 640) ⌝ }
+    ensures { λ _. ⌜ QuestionMarked (now (rows .entry)) (now (rows .exit)) g j (sameText (now (value .entry)) (now (word .entry))) ⌝ }
 {
-    let mut start: usize = 0;
-    let mut j: usize = 0;
-    while j < 4 {
-        let e = field_end(text, start);
-        if same(&text[start..e], word) {
-            rows[10 * g + (b + j)] = true;
-        }
-        if text.len() <= e {
-            return;
-        }
-        start = e + 1;
-        j += 1;
+    if same(value, word) {
+        rows[10 * g + j] = true;
     }
 }
 
-// The ten questions of one word, put into row g.
+// The ten questions of one word, put into row g: of the model, the layouts, the variants and the options.
 fn mark_word(
     word: &[u8],
     model: &[u8],
-    layouts: &[u8],
-    variants: &[u8],
+    l1: &[u8],
+    l2: &[u8],
+    l3: &[u8],
+    l4: &[u8],
+    v1: &[u8],
+    v2: &[u8],
+    v3: &[u8],
+    v4: &[u8],
     options: &[u8],
     table: &[usize; 128],
     count: usize,
     rows: &mut [bool; 640],
     g: usize,
 )
-    requires { ⌜ (1 ≤ length (now word)) × Listed (now options) (now table) count × (length (optionsOf (now options)) ≤ mostOptions)
-        × (g < 64) × (length (now rows) ≡ 640) ⌝ }
-    ensures { λ _. ⌜ Marked (profileOf (textsOf (now (model .entry)) (now (layouts .entry)) (now (variants .entry)) (now (options .entry))))
-        (now (word .entry) ∷ []) (now (rows .entry)) (now (rows .exit)) g ⌝ }
+    requires { ⌜ Listed (now options) (now table) count × (length (optionsOf (now options)) ≤ mostOptions) × (g < 64) × (length (now rows) ≡ 640) ⌝ }
+    ensures { λ _. ⌜ MarkedFor (now (model .entry) ∷ now (l1 .entry) ∷ now (l2 .entry) ∷ now (l3 .entry) ∷ now (l4 .entry) ∷ now (v1 .entry) ∷ now (v2 .entry) ∷ now (v3 .entry) ∷ now (v4 .entry) ∷ [])
+        (now (options .entry)) (now (word .entry) ∷ []) (now (rows .entry)) (now (rows .exit)) g ⌝ }
 {
-    if same(model, word) {
-        rows[10 * g] = true;
-    }
-    mark_fields(word, layouts, rows, g, 1);
-    mark_fields(word, variants, rows, g, 5);
+    mark(model, word, rows, g, 0);
+    mark(l1, word, rows, g, 1);
+    mark(l2, word, rows, g, 2);
+    mark(l3, word, rows, g, 3);
+    mark(l4, word, rows, g, 4);
+    mark(v1, word, rows, g, 5);
+    mark(v2, word, rows, g, 6);
+    mark(v3, word, rows, g, 7);
+    mark(v4, word, rows, g, 8);
     if has_option(options, table, count, word) {
         rows[10 * g + 9] = true;
     }
@@ -96,8 +96,14 @@ fn mark_words(
     at: usize,
     line: usize,
     model: &[u8],
-    layouts: &[u8],
-    variants: &[u8],
+    l1: &[u8],
+    l2: &[u8],
+    l3: &[u8],
+    l4: &[u8],
+    v1: &[u8],
+    v2: &[u8],
+    v3: &[u8],
+    v4: &[u8],
     options: &[u8],
     table: &[usize; 128],
     count: usize,
@@ -109,8 +115,8 @@ fn mark_words(
         × (length (optionsOf (now options)) ≤ mostOptions)
         × (g < 64)
         × (length (now rows) ≡ 640) ⌝ }
-    ensures { λ _. ⌜ Marked (profileOf (textsOf (now (model .entry)) (now (layouts .entry)) (now (variants .entry)) (now (options .entry))))
-        (left (now (s .entry)) at) (now (rows .entry)) (now (rows .exit)) g ⌝ }
+    ensures { λ _. ⌜ MarkedFor (now (model .entry) ∷ now (l1 .entry) ∷ now (l2 .entry) ∷ now (l3 .entry) ∷ now (l4 .entry) ∷ now (v1 .entry) ∷ now (v2 .entry) ∷ now (v3 .entry) ∷ now (v4 .entry) ∷ [])
+        (now (options .entry)) (left (now (s .entry)) at) (now (rows .entry)) (now (rows .exit)) g ⌝ }
 {
     let mut i = at;
     let mut l = line;
@@ -125,8 +131,14 @@ fn mark_words(
                 mark_word(
                     &s[start..end],
                     model,
-                    layouts,
-                    variants,
+                    l1,
+                    l2,
+                    l3,
+                    l4,
+                    v1,
+                    v2,
+                    v3,
+                    v4,
                     options,
                     table,
                     count,
@@ -181,6 +193,14 @@ pub fn fill_row(
         (now (rows .entry)) (now (rows .exit)) g ⌝ }
 {
     clear_row(rows, g);
+    let l1 = field(layouts, 0);
+    let l2 = field(layouts, 1);
+    let l3 = field(layouts, 2);
+    let l4 = field(layouts, 3);
+    let v1 = field(variants, 0);
+    let v2 = field(variants, 1);
+    let v3 = field(variants, 2);
+    let v4 = field(variants, 3);
     match word_at(s, t, fence, at, 0) {
         Next::Found {
             start: _,
@@ -194,8 +214,14 @@ pub fn fill_row(
             end,
             line,
             model,
-            layouts,
-            variants,
+            l1,
+            l2,
+            l3,
+            l4,
+            v1,
+            v2,
+            v3,
+            v4,
             options,
             table,
             count,

@@ -3,23 +3,23 @@ use Rattle.matching.proofs.groups.mark_words.Statement.{statement}
 use Rattle.matching.proofs.groups.mark_words.Tie as tie
 use Prim.Native.Nat.{_-_}
 use native.Mathlib.Omega.{arith}
+use mathlib.Core.List.{[], _∷_}
 use lib.ListN.{length}
 use Rattle.text.specs.Bytes.{part}
 use Rattle.text.proofs.Readers.{found, stopped}
-use Rattle.profile.specs.Profile.{textsOf}
-use Rattle.matching.proofs.Filling.{found-some, WordsOn, words-start, words-more, words-end}
+use Rattle.matching.proofs.Filling.{WordsFor, words-for-start, words-for-more, words-for-end}
 
 abbrev Inv-loop : tie.InvT-loop
-Inv-loop s t fence at line model layouts variants options table count rows₀ g i₀ l₀ rows i l = WordsOn s at (textsOf model layouts variants options) rows₀ rows g i l
+Inv-loop s t fence at line model l1 l2 l3 l4 v1 v2 v3 v4 options table count rows₀ g i₀ l₀ rows i l = WordsFor s at (model ∷ l1 ∷ l2 ∷ l3 ∷ l4 ∷ v1 ∷ v2 ∷ v3 ∷ v4 ∷ []) options rows₀ rows g i l
 
 abbrev μ-loop : tie.MeasureT-loop
-μ-loop s t fence at line model layouts variants options table count rows₀ g i₀ l₀ rows i l = length s - i
+μ-loop s t fence at line model l1 l2 l3 l4 v1 v2 v3 v4 options table count rows₀ g i₀ l₀ rows i l = length s - i
 
 loop-holds : tie.Need-loop-holds Inv-loop μ-loop
-loop-holds c = words-start _ _ _ _ _ _ (c .before .before .before .before .before .pre .0 .high) (c .before .before .before .before .before .pre .0 .few) (c .before .before .before .before .before .pre .4)
+loop-holds c = words-for-start _ _ _ _ _ _ _ (c .before .before .before .before .before .before .before .before .before .before .before .pre .0 .high) (c .before .before .before .before .before .before .before .before .before .before .before .pre .0 .few) (c .before .before .before .before .before .before .before .before .before .before .before .pre .4)
 
 word-at-requires : tie.Need-word-at-requires Inv-loop μ-loop
-word-at-requires c κs = record { high = c .loop .inv .high; few = c .loop .inv .few; table = c .before .before .before .before .before .before .pre .0 .table; fenced = c .before .before .before .before .before .before .pre .0 .fenced }
+word-at-requires c κs = record { high = c .loop .inv .high; few = c .loop .inv .few; table = c .before .before .before .before .before .before .before .before .before .before .before .before .pre .0 .table; fenced = c .before .before .before .before .before .before .before .before .before .before .before .before .pre .0 .fenced }
 
 enum-known-start : tie.Need-enum-known-start Inv-loop μ-loop
 enum-known-start c = search needs
@@ -34,21 +34,20 @@ part-mark-word-end : tie.Need-part-mark-word-end Inv-loop μ-loop
 part-mark-word-end c = let u = found _ _ _ _ _ _ _ _ (c .before .start .given .1) (c .before .before .before .word-at .ensures) in u .high
 
 mark-word-requires : tie.Need-mark-word-requires Inv-loop μ-loop
-unfolding part
-mark-word-requires c κs = (found-some _ _ _ _ _ _ _ (found _ _ _ _ _ _ _ _ (c .before .before .before .start .given .1) (c .before .before .before .before .before .word-at .ensures)), c .before .before .before .before .before .before .before .before .before .before .before .before .pre .1, c .before .before .before .before .before .before .before .before .before .before .before .before .pre .2, c .before .before .before .before .before .before .before .before .before .before .before .before .pre .3, c .before .before .before .before .before .before .loop .inv .size)
+mark-word-requires c κs = (c .before .before .before .before .before .before .before .before .before .before .before .before .before .before .before .before .before .before .pre .1, c .before .before .before .before .before .before .before .before .before .before .before .before .before .before .before .before .before .before .pre .2, c .before .before .before .before .before .before .before .before .before .before .before .before .before .before .before .before .before .before .pre .3, c .before .before .before .before .before .before .loop .inv .size)
 
 loop-less : tie.Need-loop-less Inv-loop μ-loop
 loop-less c = let u = found _ _ _ _ _ _ _ _ (c .before .before .before .before .start .given .1) (c .before .before .before .before .before .before .word-at .ensures) in omega (arith, u .low, u .some, u .high)
 
 loop-again : tie.Need-loop-again Inv-loop μ-loop
 unfolding part
-loop-again c = words-more _ _ _ _ _ _ _ _ (c .before .before .before .before .before .before .before .loop .inv) _ _ _ _ _ (found _ _ _ _ _ _ _ _ (c .before .before .before .before .start .given .1) (c .before .before .before .before .before .before .word-at .ensures)) (c .mark-word .ensures)
+loop-again c = words-for-more _ _ _ _ _ _ _ _ _ (c .before .before .before .before .before .before .before .loop .inv) _ _ _ _ _ (found _ _ _ _ _ _ _ _ (c .before .before .before .before .start .given .1) (c .before .before .before .before .before .before .word-at .ensures)) (c .mark-word .ensures)
 
 enum-told : tie.Need-enum-told Inv-loop μ-loop
 enum-told c = search needs
 
 returns : tie.Need-returns Inv-loop μ-loop
-returns c = words-end _ _ _ _ _ _ _ _ (c .before .before .before .loop .inv) _ _ (stopped _ _ _ _ _ _ (c .enum-told .given .1) (c .before .before .word-at .ensures))
+returns c = words-for-end _ _ _ _ _ _ _ _ _ (c .before .before .before .loop .inv) _ _ (stopped _ _ _ _ _ _ (c .enum-told .given .1) (c .before .before .word-at .ensures))
 
 pub mark-words-spec : {M : Type 1} → statement M
 mark-words-spec =
