@@ -197,13 +197,13 @@ module _ (a b : Text) (t : Texts) (c c′ : Text) (x : Outcome) (e e′ : Text) 
     (accepted-first : x .number ≡ 0)
     (accepted-second : y .number ≡ 0)
     (ended : closed a ≡ true)
-    (unshared : apart (namesOf b) (definesOf a) ≡ true)
+    (names-apart : apart (namesOf b) (definesOf a) ≡ true)
     (size : length (a ++ b) ≤ longestFile)
     (groups : length (definesOf a) + length (definesOf b) ≤ mostGroups)
     (top : total (together (textsIn c′ (x .lengths)) (textsIn e′ (y .lengths))) ≤ longestTotal)
     (enough : total (together (textsIn c′ (x .lengths)) (textsIn e′ (y .lengths))) ≤ length d) where
   pub joined-resolve : (z .number ≡ 0) × (textsIn d′ (z .lengths) ≡ together (textsIn c′ (x .lengths)) (textsIn e′ (y .lengths)))
-  joined-resolve = resolves.joined-resolve a b t c c′ x e e′ y d d′ z first second both accepted-first accepted-second ended unshared size groups top enough
+  joined-resolve = resolves.joined-resolve a b t c c′ x e e′ y d d′ z first second both accepted-first accepted-second ended names-apart size groups top enough
 
 -- Demand 3, options: two resolves "that differ only in this, with buffers of the same bytes, give the same answer (number, place and lengths) and leave
 -- the same bytes".
