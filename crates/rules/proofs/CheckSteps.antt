@@ -30,6 +30,7 @@ use Rattle.rules.specs.Words.{hasDollar, isGroupName}
 use Rattle.rules.specs.Entries.{Entry, ignored, wrong, group, set, rule, entryOf}
 use Rattle.rules.specs.Splitting.{wordsOf, IsWord, IsSplit}
 use Rattle.rules.specs.Checking.{lineOf, noHeading, presentFault, lineFault, presentAfter, namesAfter, checkFrom, namesFrom, IsSetLine, IsKind, namesAt, Named, Adds, Ready, leftFaults, leftNames, Onward, Steps}
+use Rattle.rules.specs.Plain.{LineRead}
 use Rattle.rules.proofs.Numbers.{goodEntry, entry-good}
 
 -- the fence in a part of the file
@@ -328,3 +329,20 @@ module _ (s t u : Text) (p : Progress) (h : Bool) (from m : ℕ) (x : Text) (r :
           (entry-any (p .line) h (wordsOf (drop from s)) ∙ group-is .0)
           (name-text s from _ _ _ (o .high) group-word (group-is .2))
           a)
+
+-- a line that is read at one go
+pub step-plain : (s t : Text) (p : Progress) (e : ℕ) → Ready s t p → LineRead s (p .at) (p .present) e →
+    Steps s t t p (record { at = e; line = p .line + 1; groups = p .groups; present = p .present; fault = 0 })
+step-plain s t p e w r =
+    let v = r .passes (p .line) in
+    carried s t t p (record { at = e; line = p .line + 1; groups = p .groups; present = p .present; fault = 0 }) (r .words) false (r .read (p .line) (w .few))
+    (record {
+      size = w .named .size;
+      fault = sym (v .fault (namesAt s t (p .groups)));
+      named = λ z. w .named;
+      names = λ z. sym (v .names (namesAt s t (p .groups)));
+      present = λ z. sym (v .present);
+      left = λ z. w .left;
+      right = λ z. w .right;
+    })
+    (r .low) (r .high) (let h = w .few in let k = r .low in omega arith)

@@ -16,3 +16,4 @@ pub mod CheckSteps
 pub mod Listings
 pub mod Sides
 pub mod FileChecks
+pub mod PlainLines

@@ -8,3 +8,4 @@ pub mod Names
 pub mod Splitting
 pub mod Checking
 pub mod Sets
+pub mod Plain

@@ -15,6 +15,7 @@ use super::Progress;
 use super::judge::line_kind;
 use super::judge::rule_fault;
 use super::lines::split_line;
+use super::plain::line_end;
 use text::Refusal;
 use text::compare::same;
 use text::reader::fence_of;
@@ -64,8 +65,8 @@ pub fn fence_behind(fence: usize, from: usize) -> usize
     fence - from
 }
 
-// One line: its refusal, or what is carried on to the next line.
-fn check_line(
+// One line, by its words: its refusal, or what is carried on to the next line.
+fn check_words(
     s: &[u8],
     t: &[u8; 512],
     fence: usize,
@@ -132,6 +133,32 @@ fn check_line(
                 fault,
             }
         }
+    }
+}
+
+// One line, at one go if it is simple.
+fn check_line(
+    s: &[u8],
+    t: &[u8; 512],
+    fence: usize,
+    places: &mut [usize],
+    names: &mut [usize; 128],
+    p: Progress,
+) -> Progress
+    requires { ⌜ Table (now t) × Fenced (now s) fence × (length (now places) ≡ 20) × Ready (now s) (now names) p × (p .at < length (now s)) ⌝ }
+    ensures { λ r. ⌜ Steps (now (s .entry)) (now (names .entry)) (now (names .exit)) p r × (length (now (places .exit)) ≡ 20) ⌝ }
+{
+    let present = p.present;
+    let at = line_end(s, t, fence, p.at, present);
+    if at == 0 {
+        return check_words(s, t, fence, places, names, p);
+    }
+    Progress {
+        at,
+        line: p.line + 1,
+        groups: p.groups,
+        present,
+        fault: 0,
     }
 }
 

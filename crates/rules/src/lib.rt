@@ -5,6 +5,7 @@ pub mod headings;
 pub mod judge;
 pub mod lines;
 pub mod percent;
+pub mod plain;
 pub mod sets;
 pub mod words;
 

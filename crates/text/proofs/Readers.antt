@@ -16,11 +16,13 @@ use Rattle.text.specs.declared.Next.{Next}
 use Rattle.text.specs.declared.Next.the-variants.{Found, Stop}
 use Rattle.text.specs.declared.Fast.{Fast}
 use Rattle.text.specs.declared.Fast.the-variants as fast
+use Rattle.text.specs.declared.Plain.{Plain as PlainRead}
+use Rattle.text.specs.declared.Plain.the-variants as plain
 use Rattle.text.specs.Bytes.{Text, Words, first, part, anyOf}
 use Rattle.text.specs.Marks.{classOf, Mark, char, gap, join, bang, end, atFeed, atOther, step, marks}
 use Rattle.text.specs.Lines.{run, words, heading, Line, feeds, inside, linesOf, lines}
 use Rattle.text.specs.Words.{badByte, tooLong, wordsFault}
-use Rattle.text.specs.Reading.{left, wordly, inWord, ahead, follow, faultOf, lower, kindOf, Table, Fenced, Within, WordEnd, InWord, PlainEnd, OddWord, CommentEnd, Blanks, Skipped, FoundWord, NoWord, Between, FastWord, NextWord, Opens}
+use Rattle.text.specs.Reading.{left, wordly, inWord, ahead, follow, faultOf, lower, kindOf, Table, Fenced, Within, WordEnd, InWord, PlainEnd, OddWord, CommentEnd, Blanks, Skipped, FoundWord, NoWord, Between, FastWord, PlainFound, PlainWord, NextWord, Opens}
 use Rattle.text.proofs.Lists.{no, and-both}
 use Rattle.text.proofs.Positions.{first-drop, part-empty, part-cons, part-snoc, in-word-start, in-word-more, in-word-over, marks-at, step-other, step-feed, comment-words, first-in, any-cons, any-nil, length-part, lines-char, lines-gap, lines-bang, lines-join, lines-end, lines-nil}
 use Rattle.text.proofs.ByteKinds.{Plain, not-bad, plain-in-word, kind-one, kind-stop, Begins, begins-char, kind-zero, join-class, note-class, bang-class, differ}
@@ -442,6 +444,9 @@ fault-nil = refl
 
 pub found : (s : List ℕ) (i n : ℕ) (r : Next) (a e m f : ℕ) → r ≡ Found a e m f → NextWord s i n r → FoundWord s i n a e m f
 found s i n r a e m f q h = rw q at h
+
+pub plainly : (s : List ℕ) (f i : ℕ) (r : PlainRead) (a e : ℕ) → r ≡ plain.Word a e → PlainWord s f i r → PlainFound s f i a e
+plainly s f i r a e q h = rw q at h
 
 pub stopped : (s : List ℕ) (i n : ℕ) (r : Next) (p m : ℕ) → r ≡ Stop p m → NextWord s i n r → NoWord s i n p m
 stopped s i n r p m q h = rw q at h

@@ -11,6 +11,8 @@ use Rattle.text.specs.declared.Next.{Next}
 use Rattle.text.specs.declared.Next.the-variants.{Found, Stop}
 use Rattle.text.specs.declared.Fast.{Fast}
 use Rattle.text.specs.declared.Fast.the-variants as fast
+use Rattle.text.specs.declared.Plain.{Plain}
+use Rattle.text.specs.declared.Plain.the-variants as plain
 use Rattle.text.specs.declared.Place.the-variants.{Start, Space, Word, Comment}
 use Rattle.text.specs.Bytes.{Text, Words, anyOf, part}
 use Rattle.text.specs.Marks.{classOf, marks}
@@ -162,6 +164,15 @@ abbrev pub FastWord : List ℕ → ℕ → ℕ → Fast → Type 0
 FastWord s at n (fast.Word a e m) = FoundWord s at n a e m 0
 FastWord s at n (fast.End p m) = NoWord s at n p m
 FastWord s at n (fast.Rest i m) = Between s at n i m
+
+-- the next word is plain, ends before the fence f, and stands in the same physical line
+pub record PlainFound (s : List ℕ) (f at a e : ℕ) : Type 0 where
+  pub found : (n : ℕ) → n ≤ at + 1 → FoundWord s at n a e n 0
+  pub inside : e < f
+
+abbrev pub PlainWord : List ℕ → ℕ → ℕ → Plain → Type 0
+PlainWord s f at (plain.Word a e) = PlainFound s f at a e
+PlainWord s f at plain.Other = Unit {0}
 
 abbrev pub NextWord : List ℕ → ℕ → ℕ → Next → Type 0
 NextWord s at n (Found a e m f) = FoundWord s at n a e m f

@@ -67,6 +67,12 @@ pub enum Fast {
     },
 }
 
+// A word before the fence that is plain, with only blanks before it; or anything else, for a reader that takes all.
+pub enum Plain {
+    Word { start: usize, end: usize },
+    Other,
+}
+
 pub struct Opening {
     pub heading: bool,
     pub at: usize,

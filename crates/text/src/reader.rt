@@ -6,11 +6,12 @@ ghost use lib.Dec.{eqb};
 ghost use lib.ListN.{length, getD, drop};
 ghost use Rattle.text.specs.Bytes.{first, part, anyOf};
 ghost use Rattle.text.specs.Words.{badByte};
-ghost use Rattle.text.specs.Reading.{WordEnd, PlainEnd, Skipped, OddWord, CommentEnd, FastWord, NextWord, FirstFeed, Passed, Opens, Table, Fenced, Within};
+ghost use Rattle.text.specs.Reading.{WordEnd, PlainEnd, Skipped, OddWord, CommentEnd, FastWord, PlainWord, NextWord, FirstFeed, Passed, Opens, Table, Fenced, Within};
 use super::Fast;
 use super::LineStart;
 use super::Next;
 use super::Opening;
+use super::Plain;
 use super::WordAt;
 use super::bytes::bad_byte;
 use super::bytes::in_word;
@@ -244,6 +245,25 @@ pub fn next_word(s: &[u8], t: &[u8; 512], fence: usize, from: usize, line: usize
     }
 }
 
+// A plain word, if one is next. `Other` says nothing: it is right wherever it is given.
+pub fn plain_word(s: &[u8], t: &[u8; 512], fence: usize, from: usize) -> Plain
+    requires { ⌜ (from < fence) × (Table (now t) × Fenced (now s) fence) ⌝ }
+    ensures { λ r. ⌜ PlainWord (now (s .entry)) fence from r ⌝ }
+{
+    let i = skip_fast(s, t, fence, from);
+    if kind(t, s[i]) != 0 {
+        return Plain::Other;
+    }
+    let p = plain_end(s, t, fence, i + 1);
+    if 2 < kind(t, s[p]) {
+        return Plain::Other;
+    }
+    if i + 256 < p {
+        return Plain::Other;
+    }
+    Plain::Word { start: i, end: p }
+}
+
 // The same as `next_word`, smaller: it is called where words are few. The compiler takes `next_word` into the one loop that calls it.
 pub fn word_at(s: &[u8], t: &[u8; 512], fence: usize, from: usize, line: usize) -> Next
     requires { ⌜ Within (now s) (now t) fence from line ⌝ }
@@ -252,22 +272,14 @@ pub fn word_at(s: &[u8], t: &[u8; 512], fence: usize, from: usize, line: usize) 
     if fence <= from {
         return next_slow(s, t, from, line);
     }
-    let i = skip_fast(s, t, fence, from);
-    if kind(t, s[i]) != 0 {
-        return next_slow(s, t, from, line);
-    }
-    let p = plain_end(s, t, fence, i + 1);
-    if 2 < kind(t, s[p]) {
-        return next_slow(s, t, from, line);
-    }
-    if i + 256 < p {
-        return next_slow(s, t, from, line);
-    }
-    Next::Found {
-        start: i,
-        end: p,
-        line,
-        fault: 0,
+    match plain_word(s, t, fence, from) {
+        Plain::Word { start, end } => Next::Found {
+            start,
+            end,
+            line,
+            fault: 0,
+        },
+        Plain::Other => next_slow(s, t, from, line),
     }
 }
 

@@ -1,0 +1,119 @@
+// Lines that are read at one go: lines without words, and rules whose words are plain and of which nothing is refused. Each function here gives the end of what
+// it reads, or 0 where that is for the reader of all lines; 0 says nothing, and is right wherever it is given.
+ghost use mathlib.Core.Path.{_≡_};
+ghost use Prim.Native.Nat.{_<_, _≤_};
+ghost use Rattle.text.specs.Reading.{Table, Fenced};
+ghost use Rattle.rules.specs.Plain.{LeftRead, RightRead, RuleRead, LineRead};
+use super::Present;
+use super::percent::is_malformed;
+use super::words::is_equals;
+use super::words::is_left_word;
+use super::words::is_ordinary;
+use text::Plain;
+use text::bytes::kind;
+use text::reader::plain_word;
+use text::reader::skip_fast;
+
+// The left words of a rule, n of them.
+fn left_end(s: &[u8], t: &[u8; 512], fence: usize, from: usize, n: usize) -> usize
+    requires { ⌜ (from < fence) × (Table (now t) × Fenced (now s) fence) ⌝ }
+    ensures { λ r. ⌜ ((r ≡ 0 → ⊥) → LeftRead (now (s .entry)) fence from n r) ⌝ }
+{
+    let mut at = from;
+    let mut j = n;
+    while 0 < j {
+        match plain_word(s, t, fence, at) {
+            Plain::Word { start, end } => {
+                if !is_left_word(&s[start..end]) {
+                    return 0;
+                }
+                at = end;
+                j -= 1;
+            }
+            Plain::Other => {
+                return 0;
+            }
+        }
+    }
+    at
+}
+
+// The right words of a rule, n of them; `indexed` tells whether the heading has an index word.
+fn right_end(s: &[u8], t: &[u8; 512], fence: usize, from: usize, n: usize, indexed: bool) -> usize
+    requires { ⌜ (from < fence) × (Table (now t) × Fenced (now s) fence) ⌝ }
+    ensures { λ r. ⌜ ((r ≡ 0 → ⊥) → RightRead (now (s .entry)) fence indexed from n r) ⌝ }
+{
+    let mut at = from;
+    let mut j = n;
+    while 0 < j {
+        match plain_word(s, t, fence, at) {
+            Plain::Word { start, end } => {
+                if !is_ordinary(&s[start..end]) {
+                    return 0;
+                }
+                if is_malformed(&s[start..end], indexed) {
+                    return 0;
+                }
+                at = end;
+                j -= 1;
+            }
+            Plain::Other => {
+                return 0;
+            }
+        }
+    }
+    at
+}
+
+// A rule under the heading p, from its first word on.
+fn rule_end(s: &[u8], t: &[u8; 512], fence: usize, from: usize, p: Present) -> usize
+    requires { ⌜ (from < fence) × (Table (now t) × Fenced (now s) fence) ⌝ }
+    ensures { λ r. ⌜ ((r ≡ 0 → ⊥) → RuleRead (now (s .entry)) from p r) ⌝ }
+{
+    let a = left_end(s, t, fence, from, p.left);
+    if a == 0 {
+        return 0;
+    }
+    match plain_word(s, t, fence, a) {
+        Plain::Word { start, end } => {
+            if !is_equals(&s[start..end]) {
+                return 0;
+            }
+            let b = right_end(s, t, fence, end, p.right, p.form == 2);
+            if b == 0 {
+                return 0;
+            }
+            let e = skip_fast(s, t, fence, b);
+            if s[e] != 10 {
+                return 0;
+            }
+            e + 1
+        }
+        Plain::Other => 0,
+    }
+}
+
+// A line under the heading p, from its start on.
+pub fn line_end(s: &[u8], t: &[u8; 512], fence: usize, from: usize, p: Present) -> usize
+    requires { ⌜ Table (now t) × Fenced (now s) fence ⌝ }
+    ensures { λ r. ⌜ ((r ≡ 0 → ⊥) → LineRead (now (s .entry)) from p r) ⌝ }
+{
+    if fence <= from {
+        return 0;
+    }
+    let i = skip_fast(s, t, fence, from);
+    let b = s[i];
+    if b == 10 {
+        return i + 1;
+    }
+    if b == 33 {
+        return 0;
+    }
+    if kind(t, b) != 0 {
+        return 0;
+    }
+    if p.form == 0 {
+        return 0;
+    }
+    rule_end(s, t, fence, i, p)
+}
