@@ -1,7 +1,7 @@
 # `make` proves every crate, builds the static library, the two programs and the C example, and runs document 01's example; `make test` is the gate;
 # `make stock` compares the library with the second resolver on the rules files of Debian's xkb-data, which it installs if they are not there;
-# `make install PREFIX=/usr/local DESTDIR=` and `make uninstall` do what they say.
-.PHONY: all test bench stock install uninstall clean
+# `make keymap-test` compares keymaps; `make install PREFIX=/usr/local DESTDIR=` and `make uninstall` do what they say.
+.PHONY: all test bench stock keymap-test install uninstall clean
 
 CFLAGS = -O2 -Wall -Wextra -std=c99
 STOCK = /usr/share/X11/xkb/rules
@@ -38,6 +38,11 @@ stock:
 	rt staticlib xkbrules
 	bash tests/compare/run stock $(STOCK)/evdev $(STOCK)/evdev.lst
 	bash tests/compare/run stock $(STOCK)/base $(STOCK)/base.lst
+
+# Keymaps that libxkbcommon makes of our strings and by itself, over Debian's xkb-data; both are installed if they are not there.
+keymap-test: $(TOOL)
+	{ test -e $(STOCK)/evdev && pkg-config --exists xkbcommon; } || { apt-get update && apt-get install -y xkb-data libxkbcommon-dev pkg-config; }
+	bash tests/keymap/run $(TOOL) $(STOCK)/evdev $(STOCK)/evdev.lst
 
 install: $(LIB) $(TOOL)
 	install -d "$(DESTDIR)$(BINDIR)" "$(DESTDIR)$(LIBDIR)/pkgconfig" "$(DESTDIR)$(INCLUDEDIR)" "$(DESTDIR)$(MANDIR)/man1"
