@@ -91,20 +91,20 @@ static uint8_t sheet[XKBRULES_SHEET];
 /* -- Showing -- */
 
 /* Bytes that are not 0x20 to 0x7E are shown as \x1B; a tab too, unless it is in a line. */
-static void put_safe(FILE *to, const char *s, size_t n, int in_line)
+static void put_safe(const char *s, size_t n, int in_line)
 {
     for (size_t i = 0; i < n; i++) {
         unsigned char c = (unsigned char)s[i];
         if ((c >= 0x20 && c <= 0x7E) || (c == '\t' && in_line))
-            putc(c, to);
+            putc(c, stderr);
         else
-            fprintf(to, "\\x%02X", c);
+            fprintf(stderr, "\\x%02X", c);
     }
 }
 
 static void put_word(const char *s)
 {
-    put_safe(stderr, s, strlen(s), 0);
+    put_safe(s, strlen(s), 0);
 }
 
 static const char *name_of(const char *file)
@@ -116,7 +116,7 @@ static const char *name_of(const char *file)
 static void put_below(const char *s, size_t n, int in_line)
 {
     fputs("    ", stderr);
-    put_safe(stderr, s, n < MOST_SHOWN ? n : MOST_SHOWN, in_line);
+    put_safe(s, n < MOST_SHOWN ? n : MOST_SHOWN, in_line);
     if (n > MOST_SHOWN)
         fprintf(stderr, " ... (%d of %lu bytes)", MOST_SHOWN, (unsigned long)n);
     putc('\n', stderr);
@@ -300,21 +300,20 @@ static int read_rules(const char *file)
     return error == 0 ? GOOD : failed(name_of(file), strerror(error));
 }
 
-/* All lines are good where the library gives no line's refusal: 11, the last of them, is about the profile's strings alone. */
-static int check(const request *asked)
+static int is_command(const request *asked, const char *name)
 {
-    uint64_t answer = answer_for(asked);
-    unsigned number = xkbrules_number(answer);
-
-    return number == XKBRULES_ACCEPTED || number == XKBRULES_NO_ROOM ? GOOD : refused(asked, answer);
+    return strcmp(asked->command, name) == 0;
 }
 
-static int resolve(const request *asked)
+/* A file is checked by resolving the empty profile: all its lines are looked at, and its strings are no longer than the file, so that 11 can't come. */
+static int answered(const request *asked)
 {
     uint64_t answer = answer_for(asked);
 
     if (xkbrules_number(answer) != XKBRULES_ACCEPTED)
         return refused(asked, answer);
+    if (is_command(asked, "check"))
+        return GOOD;
     if (asked->keymap)
         print_keymap();
     else
@@ -438,11 +437,6 @@ static int take_all(request *asked, char **argv)
     return status;
 }
 
-static int is_command(const request *asked, const char *name)
-{
-    return strcmp(asked->command, name) == 0;
-}
-
 /* What take_all can't see before the end; missing texts become empty ones. */
 static int complete(request *asked)
 {
@@ -477,7 +471,7 @@ static int run(request *asked, char **argv)
     if (status == GOOD)
         status = read_rules(asked->file);
     if (status == GOOD)
-        status = is_command(asked, "check") ? check(asked) : resolve(asked);
+        status = answered(asked);
     return status;
 }
 
