@@ -2,45 +2,11 @@
 
        seat RULES MODEL LAYOUTS VARIANTS OPTIONS
 
-   Prints the strings, or the refusal in words. Exit status: 0 accepted, 1 refused, 2 the file can't be read. */
+   Prints the strings, or a refusal's number and place, whose meaning xkbrules.h has. Exit status: 0 accepted, 1 refused, 2 the file can't be read. */
 #include <stdio.h>
 #include <string.h>
 
 #include "xkbrules.h"
-
-static const char *const texts_in_words[] = {"", "model", "layouts", "variants", "options"};
-
-static const char *in_words(unsigned number)
-{
-    switch (number) {
-    case XKBRULES_BAD_TEXT: return "a text or a field is too long, or has a bad byte";
-    case XKBRULES_TOO_MANY: return "too many layouts, variants or options";
-    case XKBRULES_LONG_FILE: return "the rules file is too long";
-    case XKBRULES_BAD_BYTE: return "a byte that may not stand in rules";
-    case XKBRULES_LONG_WORD: return "a word is too long";
-    case XKBRULES_BAD_LINE: return "neither a heading nor a rule that fits its heading";
-    case XKBRULES_BAD_HEADING: return "a heading with wrong items or indexes";
-    case XKBRULES_BAD_PERCENT: return "a malformed percent item";
-    case XKBRULES_INCLUDE: return "include lines are not taken";
-    case XKBRULES_BAD_GROUP: return "a group is defined twice, or there are too many";
-    case XKBRULES_NO_ROOM: return "the strings are too long";
-    default: return "not a known refusal";
-    }
-}
-
-static int refused(uint64_t answer)
-{
-    unsigned number = xkbrules_number(answer);
-    unsigned long long place = xkbrules_place(answer);
-
-    if (number == XKBRULES_BAD_TEXT || number == XKBRULES_TOO_MANY)
-        fprintf(stderr, "seat: %s: %s\n", texts_in_words[place], in_words(number));
-    else if (place != 0)
-        fprintf(stderr, "seat: line %llu: %s\n", place, in_words(number));
-    else
-        fprintf(stderr, "seat: %s\n", in_words(number));
-    return 1;
-}
 
 int main(int argc, char **argv)
 {
@@ -74,8 +40,10 @@ int main(int argc, char **argv)
                               (const uint8_t *)argv[4], strlen(argv[4]),
                               (const uint8_t *)argv[5], strlen(argv[5]),
                               texts, sizeof texts, sheet, sizeof sheet);
-    if (xkbrules_number(answer) != XKBRULES_ACCEPTED)
-        return refused(answer);
+    if (xkbrules_number(answer) != XKBRULES_ACCEPTED) {
+        fprintf(stderr, "seat: refused %u at %llu\n", xkbrules_number(answer), (unsigned long long)xkbrules_place(answer));
+        return 1;
+    }
 
     for (uint64_t i = XKBRULES_KEYCODES; i <= XKBRULES_GEOMETRY; i++) {
         uint64_t c = xkbrules_component(texts, sizeof texts, sheet, sizeof sheet, i);

@@ -25,6 +25,9 @@
 #include <stddef.h>
 #include <stdint.h>
 
+/* The version of the library and of the command xkbrules. */
+#define XKBRULES_VERSION "1.0.0"
+
 #ifdef __cplusplus
 extern "C" {
 #endif
