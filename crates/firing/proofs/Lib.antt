@@ -1,6 +1,8 @@
 pub mod Regions
 pub mod Written
 pub mod Measured
+pub mod Staged
+pub mod StageLoops
 pub mod Going
 pub mod Placing
 pub mod Beginnings

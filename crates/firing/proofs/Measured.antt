@@ -1,5 +1,5 @@
--- Measuring with no room, then writing into exactly the room that the ten texts take.
-use Prim.Native.Nat.{ℕ, zero, suc, _+_, _-_, _≤_, _<_, min}
+-- Ten texts measured by a walk, and written into exactly the room that they take.
+use Prim.Native.Nat.{ℕ, suc, _+_, _-_, _≤_, _<_, min}
 use native.Mathlib.Omega.{arith}
 use mathlib.Core.Path.{_≡_, refl, sym, ap, _∙_}
 use mathlib.Core.Bool.{Bool, true, false}
@@ -13,66 +13,63 @@ use Rattle.text.specs.Limits.{longestTotal}
 use Rattle.text.specs.Bytes.{Text}
 use Rattle.text.proofs.Lists.{or-right}
 use Rattle.output.specs.Store.{farthest, past}
-use Rattle.firing.specs.declared.Cursors.{Cursors}
 use Rattle.answers.specs.Firings.{Firing}
 use Rattle.answers.specs.Answer.{textsFrom, sum, joined, total, noRoom, accepted, bufferAfter}
 use Rattle.firing.specs.Writing.{startingAt, runCur, runBuf, Low, starts}
+use Rattle.firing.specs.Stage.{between, Reached}
 use Rattle.answers.proofs.Answers.{neither}
 use Rattle.firing.proofs.Regions.{Apart, apart-starts, all-joined, grown}
-use Rattle.firing.proofs.Written.{left, written, measured, left-all, length-run}
+use Rattle.firing.proofs.Written.{left, written, measured, left-all}
 
--- lengths as they are counted
-unfoldable pub caps : List Text → List ℕ
-caps [] = []
-caps (t ∷ ts) = past 0 (length t) ∷ caps ts
+-- Lengths are counted as the distance that a position has moved. From a position that is near enough, a text that reaches the farthest one is longer than any
+-- total may be, so that counting alone decides whether there is room.
+unfoldable pub Near : List ℕ → Type 0
+Near [] = Unit {0}
+Near (p ∷ ps) = (p + longestTotal < farthest) × Near ps
 
-pub low-caps : (ts : List Text) → Low (caps ts)
-unfolding caps Low past
-low-caps [] = tt
-low-caps (t ∷ ts) = (omega arith, low-caps ts)
+pub near-low : (ps : List ℕ) → Near ps → Low ps
+unfolding Near Low
+near-low [] h = tt
+near-low (p ∷ ps) h = (omega (arith, h .0), near-low ps (h .1))
 
-pub caps-le : (ts : List Text) → sum (caps ts) ≤ total ts
-unfolding caps sum total past
-caps-le [] = omega arith
-caps-le (t ∷ ts) = let e = caps-le ts in omega arith
+counted : List ℕ → List Text → List ℕ
+counted ps ts = between ps (grown ps ts)
 
-pub caps-fit : (ts : List Text) → sum (caps ts) ≤ longestTotal → caps ts ≡ map length ts
-unfolding caps sum past
-caps-fit [] h = refl
-caps-fit (t ∷ ts) h =
-    let e : min (0 + length t) farthest ≡ length t = omega arith in
-    rw (e, caps-fit ts (omega arith))
+reached-grown : (ps : List ℕ) (ts : List Text) → Low ps → length ts ≡ length ps → Reached ps (grown ps ts)
+unfolding grown Reached Low past
+reached-grown [] ts h l = tt
+reached-grown (p ∷ ps) [] h l = absurd (omega arith)
+reached-grown (p ∷ ps) (t ∷ ts) h l = (omega (arith, h .0), reached-grown ps ts (h .1) (omega arith))
 
-grown-zero : (ts : List Text) → grown (replicate (length ts) 0) ts ≡ caps ts
-unfolding grown caps
-grown-zero [] = refl
-grown-zero (t ∷ ts) = rw (grown-zero ts)
+low-counted : (ps : List ℕ) (ts : List Text) → length ts ≡ length ps → Low (counted ps ts)
+unfolding counted between grown Low past
+low-counted [] ts l = tt
+low-counted (p ∷ ps) [] l = absurd (omega arith)
+low-counted (p ∷ ps) (t ∷ ts) l = (omega arith, low-counted ps ts (omega arith))
 
-texts-left : (fs : List Firing) → left 0 (replicate 5 false) fs ≡ textsFrom 0 5 fs
+counted-le : (ps : List ℕ) (ts : List Text) → length ts ≡ length ps → sum (counted ps ts) ≤ total ts
+unfolding counted between grown sum total past
+counted-le [] ts l = omega arith
+counted-le (p ∷ ps) [] l = absurd (omega arith)
+counted-le (p ∷ ps) (t ∷ ts) l = let e = counted-le ps ts (omega arith) in omega arith
+
+counted-fit : (ps : List ℕ) (ts : List Text) → Near ps → length ts ≡ length ps → sum (counted ps ts) ≤ longestTotal → counted ps ts ≡ map length ts
+unfolding Near counted between grown sum past
+counted-fit [] [] n l h = refl
+counted-fit [] (t ∷ ts) n l h = absurd (omega arith)
+counted-fit (p ∷ ps) [] n l h = absurd (omega arith)
+counted-fit (p ∷ ps) (t ∷ ts) n l h =
+    let e : min (p + length t) farthest - p ≡ length t = omega (arith, n .0) in
+    rw (e, counted-fit ps ts (n .1) (omega arith) (omega arith))
+
+pub texts-left : (fs : List Firing) → left 0 (replicate 5 false) fs ≡ textsFrom 0 5 fs
 texts-left fs = left-all 0 5 fs
 
-texts-ten : (fs : List Firing) → length (textsFrom 0 5 fs) ≡ 10
+pub texts-ten : (fs : List Firing) → length (textsFrom 0 5 fs) ≡ 10
 unfolding textsFrom
 texts-ten fs = refl
 
-pub low-zeros : (n : ℕ) → Low (replicate n 0)
-unfolding Low
-low-zeros zero = tt
-low-zeros (suc n) = (omega arith, low-zeros n)
-
-pub measure : (fs : List Firing) → runCur (startingAt (replicate 10 0)) fs .at ≡ caps (textsFrom 0 5 fs)
-measure fs =
-    measured fs (startingAt (replicate 10 0)) refl refl (low-zeros 10)
-    ∙ rw (texts-left fs) (rw (texts-ten fs) at (grown-zero (textsFrom 0 5 fs)))
-
-pub empty-room : (d′ : Text) (q : Cursors) (fs : List Firing) → d′ ≡ runBuf [] q fs → d′ ≡ []
-empty-room d′ q fs e = nil d′ (ap length e ∙ length-run [] q fs)
-  where
-    nil : (l : Text) → length l ≡ 0 → l ≡ []
-    nil [] h = refl
-    nil (x ∷ l) h = absurd (omega arith)
-
-starts-length : (k : ℕ) (ns : List ℕ) → length (starts k ns) ≡ length ns
+pub starts-length : (k : ℕ) (ns : List ℕ) → length (starts k ns) ≡ length ns
 unfolding starts
 starts-length k [] = refl
 starts-length k (n ∷ ns) = ap suc (starts-length (k + n) ns)
@@ -86,6 +83,11 @@ unfolding Low starts sum
 low-starts k [] h = tt
 low-starts k (n ∷ ns) h = (omega arith, low-starts (k + n) ns (omega arith))
 
+pub near-starts : (k : ℕ) (ns : List ℕ) → k + sum ns + longestTotal < farthest → Near (starts k ns)
+unfolding Near starts sum
+near-starts k [] h = tt
+near-starts k (n ∷ ns) h = (omega arith, near-starts (k + n) ns (omega arith))
+
 module _ (fs : List Firing) (room : Text) (fits : length room ≡ total (textsFrom 0 5 fs)) (low : length room ≤ longestTotal) where
   pub fill : runBuf room (startingAt (starts 0 (map length (textsFrom 0 5 fs)))) fs ≡ joined (textsFrom 0 5 fs)
   fill =
@@ -96,32 +98,42 @@ module _ (fs : List Firing) (room : Text) (fits : length room ≡ total (textsFr
       written fs room (startingAt (starts 0 (map length ts))) 0 l refl (rw (texts-left fs) a)
       ∙ rw (texts-left fs, all-joined room 0 ts (omega arith), e, drop-length, append-nil)
 
-room-when : (room : ℕ) (ts : List Text) (t : Bool) → ltb longestTotal (sum (caps ts)) ≡ t → noRoom room (sum (caps ts)) ≡ noRoom room (total ts)
+room-when : (room : ℕ) (ps : List ℕ) (ts : List Text) (t : Bool) → Near ps → length ts ≡ length ps → ltb longestTotal (sum (counted ps ts)) ≡ t →
+    noRoom room (sum (counted ps ts)) ≡ noRoom room (total ts)
 unfolding noRoom total
-room-when room ts false e = rw (caps-fit ts (ltb-false longestTotal (sum (caps ts)) e))
-room-when room ts true e =
-    let b = lt-ltb longestTotal (total ts) (omega (arith, ltb-true longestTotal (sum (caps ts)) e, caps-le ts)) in
-    or-right (ltb room (sum (caps ts))) _ e ∙ sym (or-right (ltb room (total ts)) _ b)
+room-when room ps ts false n l e = rw (counted-fit ps ts n l (ltb-false longestTotal (sum (counted ps ts)) e))
+room-when room ps ts true n l e =
+    let b = lt-ltb longestTotal (total ts) (omega (arith, ltb-true longestTotal (sum (counted ps ts)) e, counted-le ps ts l)) in
+    or-right (ltb room (sum (counted ps ts))) _ e ∙ sym (or-right (ltb room (total ts)) _ b)
 
--- Counting alone decides whether there is room: no room for the lengths as they are counted is no room for the texts.
-pub same-room : (room : ℕ) (ts : List Text) → noRoom room (sum (caps ts)) ≡ noRoom room (total ts)
-same-room room ts = room-when room ts (ltb longestTotal (sum (caps ts))) refl
+-- what ten positions tell after a walk, of the ten from which it started
+module _ (fs : List Firing) (ps es : List ℕ) (ten : length ps ≡ 10) (near : Near ps) (is : es ≡ runCur (startingAt ps) fs .at) where
+  ends : es ≡ grown ps (textsFrom 0 5 fs)
+  ends = is ∙ measured fs (startingAt ps) ten refl (near-low ps near) ∙ rw (texts-left fs) refl
 
--- the lengths that a walk with no room counts
-pub low-counted : (fs : List Firing) (ns : List ℕ) → ns ≡ runCur (startingAt (replicate 10 0)) fs .at → Low ns
-low-counted fs ns e = rw (e ∙ measure fs) (low-caps (textsFrom 0 5 fs))
+  size : length (textsFrom 0 5 fs) ≡ length ps
+  size = texts-ten fs ∙ sym ten
 
-pub room-counted : (room : ℕ) (fs : List Firing) (ns : List ℕ) (n : ℕ) → ns ≡ runCur (startingAt (replicate 10 0)) fs .at → n ≡ sum ns →
-    noRoom room n ≡ noRoom room (total (textsFrom 0 5 fs))
-room-counted room fs ns n e h = rw (h, e, measure fs) (same-room room (textsFrom 0 5 fs))
+  pub ends-reached : Reached ps es
+  ends-reached = rw ends (reached-grown ps (textsFrom 0 5 fs) (near-low ps near) size)
 
-pub lengths-counted : (room : ℕ) (fs : List Firing) (ns : List ℕ) (n : ℕ) → ns ≡ runCur (startingAt (replicate 10 0)) fs .at → n ≡ sum ns →
-    noRoom room n ≡ false → ns ≡ map length (textsFrom 0 5 fs)
-unfolding noRoom
-lengths-counted room fs ns n e h k =
-    let c : ns ≡ caps (textsFrom 0 5 fs) = e ∙ measure fs in
-    let s : n ≡ sum (caps (textsFrom 0 5 fs)) = h ∙ ap sum c in
-    c ∙ caps-fit (textsFrom 0 5 fs) (omega (arith, s, ltb-false longestTotal n (neither (ltb room n) (ltb longestTotal n) k .1)))
+  module _ (ns : List ℕ) (are : ns ≡ between ps es) where
+    counts : ns ≡ counted ps (textsFrom 0 5 fs)
+    unfolding counted
+    counts = are ∙ ap (between ps) ends
+
+    pub low-lengths : Low ns
+    low-lengths = rw counts (low-counted ps (textsFrom 0 5 fs) size)
+
+    -- Counting alone decides whether there is room: no room for the lengths as they are counted is no room for the texts.
+    pub room-counted : (room n : ℕ) → n ≡ sum ns → noRoom room n ≡ noRoom room (total (textsFrom 0 5 fs))
+    room-counted room n h = rw (h, counts) (room-when room ps (textsFrom 0 5 fs) _ near size refl)
+
+    pub lengths-counted : (room n : ℕ) → n ≡ sum ns → noRoom room n ≡ false → ns ≡ map length (textsFrom 0 5 fs)
+    unfolding noRoom
+    lengths-counted room n h k =
+        let s : n ≡ sum (counted ps (textsFrom 0 5 fs)) = h ∙ ap sum counts in
+        counts ∙ counted-fit ps (textsFrom 0 5 fs) near size (omega (arith, s, ltb-false longestTotal n (neither (ltb room n) (ltb longestTotal n) k .1)))
 
 -- The ten texts written at the start of a buffer that has room for them; what is behind them is as it was.
 module _ (fs : List Firing) (d : Text) (fits : total (textsFrom 0 5 fs) ≤ length d) (low : total (textsFrom 0 5 fs) ≤ longestTotal) where

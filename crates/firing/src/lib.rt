@@ -1,6 +1,7 @@
 // The values of rules, fired into ten regions of one lent buffer.
 
 pub mod rule;
+pub mod stage;
 pub mod writing;
 
 // The next free position of each of ten regions of the buffer (base and additions of component 0, of component 1, ..), and which bases are set.

@@ -6,8 +6,8 @@ use native.Mathlib.Omega.{arith}
 use mathlib.Core.Path.{_≡_, refl, sym, ap, _∙_}
 use mathlib.Core.List.{List, [], _∷_, _++_, append-assoc, append-nil}
 use mathlib.Core.Bool.{Bool, true, false}
-use lib.ListN.{length, take, drop, getD, set, length-set, length-append}
-use lib.Seq.{set-out, set-comm, take-suc-set, take-add, drop-drop, drop-set-lt}
+use lib.ListN.{length, take, drop, getD, set, length-set, length-append, take-append-drop}
+use lib.Seq.{set-out, set-comm, take-suc-set, take-set-le, take-add, drop-drop, drop-set-lt}
 use lib.Dec.{ltb}
 use borrow.Author.Tests.{ltb-true, ltb-false}
 use Rattle.text.specs.Bytes.{Text, part}
@@ -58,6 +58,19 @@ unfolding stored
 drop-stored d at [] n h = refl
 drop-stored d at (b ∷ t) n h = drop-stored (set d at b) (at + 1) t n (omega arith) ∙ drop-set-lt n d at b (omega arith)
 
+pub take-before : (d : Text) (at : ℕ) (t : Text) (n : ℕ) → n ≤ at → take n (stored d at t) ≡ take n d
+unfolding stored
+take-before d at [] n h = refl
+take-before d at (b ∷ t) n h = take-before (set d at b) (at + 1) t n (omega arith) ∙ take-set-le n d at b h
+
+-- a text stored at the start of a buffer
+pub stored-front : (d t : Text) → length t ≤ length d → stored d 0 t ≡ t ++ drop (length t) d
+stored-front d t h =
+    let e : 0 + length t ≡ length t = omega arith in
+    let a : take (length t) (stored d 0 t) ≡ t = rw e at (take-stored d 0 t (omega arith)) in
+    let b : drop (length t) (stored d 0 t) ≡ drop (length t) d = drop-stored d 0 t (length t) (omega arith) in
+    sym (take-append-drop (length t) (stored d 0 t)) ∙ rw (a, b)
+
 -- the loop of `copy`
 pub copied-none : (d s : Text) (start from : ℕ) → d ≡ stored d start (part s from from)
 unfolding stored
@@ -67,7 +80,7 @@ stored-one : (d : Text) (at b : ℕ) → set d at b ≡ stored d at (b ∷ [])
 unfolding stored
 stored-one d at b = refl
 
-stored-none : (d : Text) (at : ℕ) → stored d at [] ≡ d
+pub stored-none : (d : Text) (at : ℕ) → stored d at [] ≡ d
 unfolding stored
 stored-none d at = refl
 

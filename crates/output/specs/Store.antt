@@ -9,9 +9,10 @@ unfoldable pub stored : Text → ℕ → Text → Text
 stored d at [] = d
 stored d at (b ∷ t) = stored (set d at b) (at + 1) t
 
--- Positions end one behind the longest total, so that no sum can wrap.
+-- Positions end at 2^21, so that no sum can wrap. That is far enough behind the longest total, 2^20, that a text that starts within the first half and
+-- reaches the end is longer than any total may be.
 abbrev pub farthest : ℕ
-farthest = 1048577
+farthest = 2097152
 
 unfoldable pub past : ℕ → ℕ → ℕ
 past at n = min (at + n) farthest

@@ -1,4 +1,4 @@
-// Texts written into a lent buffer: a byte behind the buffer's end is counted and not stored, so that measuring is writing with no room.
+// Texts written into a lent buffer: a byte behind the buffer's end is counted and not stored, so that a text is measured where it has no room.
 ghost use mathlib.Core.Path.{_≡_};
 ghost use Prim.Native.Nat.{_-_, _^_, _≤_, _<_, min};
 ghost use lib.ListN.{length};
@@ -11,18 +11,18 @@ pub fn wide(x: u32) -> usize
     x as usize
 }
 
-// The position n bytes on; from 1,048,577 on they are all one.
+// The position n bytes on; from 2,097,152 on they are all one.
 pub fn past(at: u32, n: usize) -> u32
     ensures { λ r. ⌜ r ≡ pastOf at n ⌝ }
 {
-    if 1048577 <= n {
-        return 1048577;
+    if 2097152 <= n {
+        return 2097152;
     }
-    if 1048577 <= at {
-        return 1048577;
+    if 2097152 <= at {
+        return 2097152;
     }
     let m = at + n as u32;
-    if m < 1048577 { m } else { 1048577 }
+    if m < 2097152 { m } else { 2097152 }
 }
 
 // How many of n bytes from a position on the room takes.

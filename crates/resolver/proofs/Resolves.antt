@@ -26,8 +26,10 @@ use Rattle.answers.specs.declared.Outcome.{Outcome}
 use Rattle.answers.specs.Firings.{fileFirings}
 use Rattle.answers.specs.Answer.{textsFrom, tenTexts, sum, total, noRoom, refusals, Answer, refused, accepted, firstOf, answer, numberOf, placeOf, lengthsOf, outcome, bufferAfter, Answered}
 use Rattle.firing.specs.Writing.{startingAt, runBuf, Low, starts}
+use Rattle.firing.specs.Stage.{stageSize, regions, inRegions, textsAt, Staged}
 use Rattle.answers.proofs.Answers.{neither, answered}
 use Rattle.firing.proofs.Measured.{low-starts, written-by}
+use Rattle.firing.proofs.Staged.{stage-texts}
 
 -- the first of some refusals
 
@@ -108,6 +110,19 @@ module _ (room : ℕ) (f : Text) (t : Texts) where
     unfolding answer refusals refusedIf firstOf outcome numberOf placeOf lengthsOf
     all-accepted ns lines h e = rw (clear, lines, h, e) refl
 
+-- A refusal leaves no texts in a stage; an accepted answer leaves each text that is not too long for its region.
+module _ (room : ℕ) (f : Text) (t : Texts) (d : Text) where
+  pub staged-refused : (x : Outcome) (r : Refusal) → x ≡ outcome (refused r) → (r .number ≡ 0 → ⊥) → outcome (refused r) ≡ outcome (answer room f t) →
+      Staged room f t d x
+  unfolding outcome numberOf
+  staged-refused x r e h g = record { result = e ∙ g; texts = λ z. absurd (h (sym (ap (λ (y : Outcome). y .number) e) ∙ z)) }
+
+  pub staged-accepted : (d₀ : Text) (x : Outcome) → x ≡ outcome (answer room f t) → x .lengths ≡ map length (tenTexts f t) → length d₀ ≡ stageSize →
+      d ≡ runBuf d₀ (startingAt regions) (fileFirings f (profileOf t)) → Staged room f t d x
+  unfolding tenTexts
+  staged-accepted d₀ x e n l w =
+      record { result = e; texts = λ z h. rw (n, w) (stage-texts (fileFirings f (profileOf t)) d₀ l (rw n at h)) }
+
 -- an answer with number 0 is accepted
 pub record Accepts (room : ℕ) (f : Text) (t : Texts) : Type 0 where
   pub is : answer room f t ≡ accepted (tenTexts f t)
@@ -170,7 +185,12 @@ pub buffer-kept : (d f : Text) (t : Texts) (x : Outcome) → x ≡ outcome (answ
 unfolding outcome
 buffer-kept d f t x e h = refused-kept d (answer (length d) f t) (λ z. h (ap (λ (y : Outcome). y .number) e ∙ z))
 
--- an accepted answer leaves the ten texts
+-- an accepted answer leaves the ten texts: copied from a stage,
+pub buffer-copied : (d f : Text) (t : Texts) (x : Outcome) (s d′ : Text) → Staged (length d) f t s x → Accepts (length d) f t → x .number ≡ 0 →
+    inRegions (x .lengths) ≡ true → d′ ≡ bufferAfter d (accepted (textsAt 0 s (x .lengths))) → d′ ≡ bufferAfter d (answer (length d) f t)
+buffer-copied d f t x s d′ v a n h w = w ∙ rw (v .texts n h, a .is) refl
+
+-- or written where they belong
 pub buffer-written : (d f : Text) (t : Texts) (x : Outcome) → x ≡ outcome (answer (length d) f t) → Accepts (length d) f t →
     (at : List ℕ) (n : ℕ) (d′ : Text) → at ≡ starts 0 (x .lengths) → n ≡ sum (x .lengths) →
     d′ ≡ runBuf (midOf 0 (n - 0) d) (startingAt at) (fileFirings f (profileOf t)) → d′ ++ postOf 0 (n - 0) d ≡ bufferAfter d (answer (length d) f t)

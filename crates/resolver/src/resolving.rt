@@ -9,10 +9,15 @@ ghost use Rattle.profile.specs.Refusals.{profileRefusals};
 ghost use Rattle.rules.specs.Faults.{lineFaults};
 ghost use Rattle.answers.specs.Answer.{answer, refused as refusedAt, outcome, noRoom, Resolved};
 ghost use Rattle.firing.specs.Writing.{Low};
+ghost use Rattle.firing.specs.Stage.{stageSize, Staged};
 ghost use Rattle.resolver.specs.Running.{FiredFile};
 use super::walking::walk;
 use answers::Outcome;
 use firing::Cursors;
+use firing::stage::REGIONS;
+use firing::stage::copy_texts;
+use firing::stage::in_regions;
+use firing::stage::lengths_between;
 use firing::writing::places;
 use profile::fields::field_count;
 use profile::table::list_options;
@@ -90,17 +95,19 @@ fn fire_file(
     m.at
 }
 
-// The answer of a resolve that is lent `room` bytes, without the texts.
-pub fn measure(
+// The answer of a resolve that is lent `room` bytes. The texts are left in the stage, each in its region, unless one is longer than that.
+fn staged(
     s: &[u8],
     model: &[u8],
     layouts: &[u8],
     variants: &[u8],
     options: &[u8],
     room: usize,
+    stage: &mut [u8],
 ) -> Outcome
-    ensures { λ r. ⌜ r ≡ outcome (answer room (now (s .entry))
-        (textsOf (now (model .entry)) (now (layouts .entry)) (now (variants .entry)) (now (options .entry)))) ⌝ }
+    requires { ⌜ length (now stage) ≡ stageSize ⌝ }
+    ensures { λ r. ⌜ Staged room (now (s .entry)) (textsOf (now (model .entry)) (now (layouts .entry)) (now (variants .entry)) (now (options .entry)))
+        (now (stage .exit)) r ⌝ }
 {
     let p = profile::check(model, layouts, variants, options);
     if p.number != 0 {
@@ -112,8 +119,9 @@ pub fn measure(
     if f.number != 0 {
         return refused(f);
     }
-    let mut none: [u8; 0] = [0; 0];
-    let lengths = fire_file(s, model, layouts, variants, options, [0; 10], &mut none);
+    let starts = REGIONS;
+    let ends = fire_file(s, model, layouts, variants, options, starts, stage);
+    let lengths = lengths_between(starts, ends);
     let sums = places(lengths);
     if no_room(room, sums.total) {
         return refused(Refusal {
@@ -128,6 +136,22 @@ pub fn measure(
     }
 }
 
+// The answer of a resolve that is lent `room` bytes, without the texts.
+pub fn measure(
+    s: &[u8],
+    model: &[u8],
+    layouts: &[u8],
+    variants: &[u8],
+    options: &[u8],
+    room: usize,
+) -> Outcome
+    ensures { λ r. ⌜ r ≡ outcome (answer room (now (s .entry))
+        (textsOf (now (model .entry)) (now (layouts .entry)) (now (variants .entry)) (now (options .entry)))) ⌝ }
+{
+    let mut stage: [u8; 10240] = [0; 10240];
+    staged(s, model, layouts, variants, options, room, &mut stage)
+}
+
 // The answer of a resolve, with the ten texts at the start of the buffer; at a refusal the buffer is as it was.
 pub fn resolve(
     s: &[u8],
@@ -140,11 +164,17 @@ pub fn resolve(
     ensures { λ r. ⌜ Resolved (now (s .entry)) (textsOf (now (model .entry)) (now (layouts .entry)) (now (variants .entry)) (now (options .entry)))
         (now (buf .entry)) (now (buf .exit)) r ⌝ }
 {
-    let a = measure(s, model, layouts, variants, options, buf.len());
+    let mut stage: [u8; 10240] = [0; 10240];
+    let a = staged(s, model, layouts, variants, options, buf.len(), &mut stage);
     if a.number != 0 {
         return a;
     }
     let lengths = a.lengths;
+    if in_regions(lengths) {
+        copy_texts(&stage, lengths, buf);
+        return a;
+    }
+    // a text has run into the next region: all are written once more, where they belong
     let sums = places(lengths);
     let starts = sums.at;
     let total = sums.total as usize;
