@@ -1,13 +1,14 @@
 // Whether a rule's left word matches: by the groups' rows, or by the profile's texts.
 ghost use mathlib.Core.Path.{_≡_};
-ghost use Prim.Native.Nat.{_<_, _≤_};
-ghost use lib.ListN.{length};
+ghost use Prim.Native.Nat.{_<_, _≤_, _-_};
+ghost use mathlib.Core.List.{[]};
+ghost use lib.ListN.{length, getD};
 ghost use Rattle.text.specs.Reading.{Within};
 ghost use Rattle.matching.specs.Held.{columnBy};
 ghost use Rattle.matching.specs.Left.{LeftRead};
 ghost use Rattle.text.specs.Limits.{mostOptions};
 ghost use Rattle.text.specs.Bytes.{same as sameText, anyOf};
-ghost use Rattle.profile.specs.Profile.{textsOf, profileOf, optionsOf};
+ghost use Rattle.profile.specs.Profile.{textsOf, profileOf, fields, optionsOf};
 ghost use Rattle.profile.specs.Listing.{Listed};
 ghost use Rattle.rules.specs.Checking.{Named};
 ghost use Rattle.answers.specs.Matching.{members};
@@ -15,7 +16,6 @@ ghost use Rattle.matching.specs.Groups.{groupsAt, Rowed};
 ghost use Rattle.matching.specs.Rows.{Told, ofWord, ofStar, ofValue, matchesAt};
 use super::LeftWord;
 use super::groups::group_asked;
-use profile::fields::field;
 use profile::table::has_option;
 use rules::words::has_dollar;
 use rules::words::is_star;
@@ -105,11 +105,14 @@ fn option_matches(
     has_option(options, table, count, w)
 }
 
-// A left word, by its column's number (1 model, 2 layout, 3 variant, 4 options) and the matched layout, which is 0 only where no column asks for it.
+// A left word, by its column's number (1 model, 2 layout, 3 variant, 4 options) and the matched layout, which is 0 only where no column asks for it. `layout` and
+// `variant` are those of that layout; the texts that they are parts of are parameters for the contract's sake alone.
 pub fn column_matches(
     c: usize,
     w: &[u8],
     k: usize,
+    layout: &[u8],
+    variant: &[u8],
     s: &[u8],
     names: &[usize; 128],
     rows: &[bool; 640],
@@ -127,7 +130,9 @@ pub fn column_matches(
         × (length (optionsOf (now options)) ≤ mostOptions)
         × (k ≤ 4)
         × (c ≡ 2 → 1 ≤ k)
-        × (c ≡ 3 → 1 ≤ k) ⌝ }
+        × (c ≡ 3 → 1 ≤ k)
+        × (now layout ≡ getD (fields (now layouts)) (k - 1) [])
+        × (now variant ≡ getD (fields (now variants)) (k - 1) []) ⌝ }
     ensures { λ r. ⌜ r ≡ matchesAt (members (groupsAt (now (s .entry)) (now (names .entry)) n))
         (profileOf (textsOf (now (model .entry)) (now (layouts .entry)) (now (variants .entry)) (now (options .entry))))
         k c (now (w .entry)) ⌝ }
@@ -136,10 +141,10 @@ pub fn column_matches(
         return model_matches(w, model, s, names, rows, n);
     }
     if c == 2 {
-        return value_matches(w, field(layouts, k - 1), s, names, rows, n, k);
+        return value_matches(w, layout, s, names, rows, n, k);
     }
     if c == 3 {
-        return value_matches(w, field(variants, k - 1), s, names, rows, n, k + 4);
+        return value_matches(w, variant, s, names, rows, n, k + 4);
     }
     option_matches(w, options, table, count, s, names, rows, n)
 }
@@ -153,6 +158,8 @@ pub fn left_word(
     line: usize,
     c: usize,
     k: usize,
+    layout: &[u8],
+    variant: &[u8],
     names: &[usize; 128],
     rows: &[bool; 640],
     n: usize,
@@ -170,7 +177,9 @@ pub fn left_word(
         × (length (optionsOf (now options)) ≤ mostOptions)
         × (k ≤ 4)
         × (c ≡ 2 → 1 ≤ k)
-        × (c ≡ 3 → 1 ≤ k) ⌝ }
+        × (c ≡ 3 → 1 ≤ k)
+        × (now layout ≡ getD (fields (now layouts)) (k - 1) [])
+        × (now variant ≡ getD (fields (now variants)) (k - 1) []) ⌝ }
     ensures { λ r. ⌜ LeftRead (members (groupsAt (now (s .entry)) (now (names .entry)) n))
         (profileOf (textsOf (now (model .entry)) (now (layouts .entry)) (now (variants .entry)) (now (options .entry))))
         k (columnBy c) (now (s .entry)) from line r ⌝ }
@@ -186,6 +195,8 @@ pub fn left_word(
                 c,
                 &s[start..end],
                 k,
+                layout,
+                variant,
                 s,
                 names,
                 rows,

@@ -66,7 +66,7 @@ module _ (p : Profile) (s : Text) (d₀ : Text) (q₀ : Cursors) where
       abbrev onto : Walk
       onto =
           record {
-            progress = record { at = r .start; line = r .number; groups = w .progress .groups; present = w .progress .present; fault = 0 };
+            progress = record { at = r .start; line = r .number; groups = w .progress .groups; present = w .progress .present; fault = 0; heading = false };
             cursors = w .cursors;
           }
 

@@ -11,3 +11,4 @@ pub mod Resolves
 pub mod Resolutions
 pub mod RuleLines
 pub mod HeadingLines
+pub mod HeadsFound

@@ -19,7 +19,10 @@ use Rattle.profile.specs.Profile.{Texts, fields, textsOf, profileOf, layoutCoun
 use Rattle.profile.specs.Refusals.{outside, longField, badText, textRefusals, countRefusals, profileRefusals}
 use Rattle.profile.proofs.Counts as counted
 use Rattle.profile.proofs.Numbers.{profile-numbers}
+use Rattle.rules.specs.declared.Checked.{Checked}
+use Rattle.rules.specs.Checking.{Checks}
 use Rattle.rules.specs.Faults.{lineFaults, fileRefusals}
+use Rattle.resolver.specs.Heads.{AllHeads, StagedListed}
 use Rattle.rules.proofs.Numbers.{file-numbers}
 use Rattle.values.specs.Filling.{Short}
 use Rattle.answers.specs.declared.Outcome.{Outcome}
@@ -112,16 +115,31 @@ module _ (room : ℕ) (f : Text) (t : Texts) where
 
 -- A refusal leaves no texts in a stage; an accepted answer leaves each text that is not too long for its region.
 module _ (room : ℕ) (f : Text) (t : Texts) (d : Text) where
-  pub staged-refused : (x : Outcome) (r : Refusal) → x ≡ outcome (refused r) → (r .number ≡ 0 → ⊥) → outcome (refused r) ≡ outcome (answer room f t) →
+  staged-refused : (x : Outcome) (r : Refusal) → x ≡ outcome (refused r) → (r .number ≡ 0 → ⊥) → outcome (refused r) ≡ outcome (answer room f t) →
       Staged room f t d x
   unfolding outcome numberOf
   staged-refused x r e h g = record { result = e ∙ g; texts = λ z. absurd (h (sym (ap (λ (y : Outcome). y .number) e) ∙ z)) }
 
-  pub staged-accepted : (d₀ : Text) (x : Outcome) → x ≡ outcome (answer room f t) → x .lengths ≡ map length (tenTexts f t) → length d₀ ≡ stageSize →
+  staged-accepted : (d₀ : Text) (x : Outcome) → x ≡ outcome (answer room f t) → x .lengths ≡ map length (tenTexts f t) → length d₀ ≡ stageSize →
       d ≡ runBuf d₀ (startingAt regions) (fileFirings f (profileOf t)) → Staged room f t d x
   unfolding tenTexts
   staged-accepted d₀ x e n l w =
       record { result = e; texts = λ z h. rw (n, w) (stage-texts (fileFirings f (profileOf t)) d₀ l (rw n at h)) }
+
+-- the same, with the headings that the check listed
+pub heads-listed : (f t u : Text) (r : Checked) → Checks f t u r → r .refusal .number ≡ 0 → AllHeads f u (r .heads)
+heads-listed f t u r v z = record { heads = v .heads; all = v .all z }
+
+module _ (room : ℕ) (f : Text) (t : Texts) (d u : Text) where
+  pub listed-refused : (x : Outcome) (r : Refusal) → x ≡ outcome (refused r) → (r .number ≡ 0 → ⊥) → outcome (refused r) ≡ outcome (answer room f t) →
+      StagedListed room f t d u (record { outcome = x; heads = 0 })
+  unfolding outcome numberOf
+  listed-refused x r e h g =
+      record { staged = staged-refused room f t d x r e h g; heads = λ z. absurd (h (sym (ap (λ (y : Outcome). y .number) e) ∙ z)) }
+
+  pub listed-accepted : (d₀ : Text) (x : Outcome) → x ≡ outcome (answer room f t) → x .lengths ≡ map length (tenTexts f t) → length d₀ ≡ stageSize →
+      d ≡ runBuf d₀ (startingAt regions) (fileFirings f (profileOf t)) → (n : ℕ) → AllHeads f u n → StagedListed room f t d u (record { outcome = x; heads = n })
+  listed-accepted d₀ x e l z w n a = record { staged = staged-accepted room f t d d₀ x e l z w; heads = λ y. a }
 
 -- an answer with number 0 is accepted
 pub record Accepts (room : ℕ) (f : Text) (t : Texts) : Type 0 where

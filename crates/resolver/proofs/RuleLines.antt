@@ -96,7 +96,7 @@ unfolding nextFirings ruleEntry
 next-plain gs p [] ls = refl
 next-plain gs p (u ∷ us) ls = refl
 
-pass-fires : (gs : Groups) (p : Profile) (n : ℕ) (ws : Words) (ls : List Line) → firingsFrom gs p (lineOf n false ws ∷ ls) ≡ firingsFrom gs p ls
+pub pass-fires : (gs : Groups) (p : Profile) (n : ℕ) (ws : Words) (ls : List Line) → firingsFrom gs p (lineOf n false ws ∷ ls) ≡ firingsFrom gs p ls
 unfolding entryOf nextFirings
 pass-fires gs p n ws ls = firings-line gs p (lineOf n false ws) ls ∙ go (eqb (wordsFault ws) 0)
   where
@@ -107,21 +107,21 @@ pass-fires gs p n ws ls = firings-line gs p (lineOf n false ws) ls ∙ go (eqb (
 -- the search for the next heading
 
 pub record Seeking (s : Text) (at n i m : ℕ) : Type 0 where
-  pub low : at ≤ i
+  pub fewer : length (follow s i m) ≤ length (follow s at n)
   pub high : i ≤ length s
   pub few : m ≤ i + 1
   pub fires : (gs : Groups) (p : Profile) → firingsFrom gs p (follow s at n) ≡ firingsFrom gs p (follow s i m)
   pub clean : (ns : List Text) (h : Present) → checkFrom ns h (follow s at n) ≡ [] → checkFrom ns h (follow s i m) ≡ []
 
 pub seek-start : (s : Text) (at n : ℕ) → at ≤ length s → n ≤ at + 1 → Seeking s at n at n
-seek-start s at n h k = record { low = omega arith; high = h; few = k; fires = λ gs p. refl; clean = λ ns h c. c }
+seek-start s at n h k = record { fewer = omega arith; high = h; few = k; fires = λ gs p. refl; clean = λ ns h c. c }
 
 module _ (s : Text) (at n i m : ℕ) (v : Seeking s at n i m) where
   pub seek-more : (b : Bool) (from l p q : ℕ) → i < length s → b ≡ false → Opens s i m b from l → Passed s from l p q → Seeking s at n p q
   seek-more b from l p q h e o w =
       let r = line-read s i m b from l p q h e o w in
       record {
-        low = omega (arith, v .low, line-on s i m b from l p q h e o w);
+        fewer = omega (arith, v .fewer, ap length r);
         high = w .high;
         few = w .few;
         fires = λ gs pr. v .fires gs pr ∙ rw r (pass-fires gs pr m (left s from) (follow s p q));
@@ -132,7 +132,7 @@ module _ (s : Text) (at n i m : ℕ) (v : Seeking s at n i m) where
       NextHeading s at n (record { found = true; start = i; number = m; at = from; line = l })
   seek-found b from l h e o =
       record {
-        low = v .low;
+        fewer = v .fewer;
         high = v .high;
         few = v .few;
         fires = v .fires;
@@ -143,4 +143,4 @@ module _ (s : Text) (at n i m : ℕ) (v : Seeking s at n i m) where
 
   pub seek-none : length s ≤ i → NextHeading s at n (record { found = false; start = i; number = m; at = i; line = m })
   seek-none h =
-      record { low = v .low; high = v .high; few = v .few; fires = v .fires; clean = v .clean; opens = λ t. absurd (no t); none = λ t. h }
+      record { fewer = v .fewer; high = v .high; few = v .few; fires = v .fires; clean = v .clean; opens = λ t. absurd (no t); none = λ t. h }

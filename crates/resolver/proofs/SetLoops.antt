@@ -4,7 +4,7 @@ use native.Mathlib.Omega.{arith}
 use mathlib.Core.Path.{_≡_, refl, sym, ap, _∙_}
 use mathlib.Core.List.{List, [], _∷_, _++_, map, append-nil}
 use mathlib.Core.Bool.{Bool, true, false, cond}
-use lib.ListN.{length, take, drop, drop-of-length-le}
+use lib.ListN.{length, getD, take, drop, drop-of-length-le}
 use lib.Dec.{eqb}
 use borrow.Author.Tests.{eqb-true, eqb-false}
 use Rattle.text.proofs.Lists.{no}
@@ -34,6 +34,10 @@ use Rattle.matching.proofs.HeldHeadings.{columns-length, components-length, com
 use Rattle.matching.proofs.LeftLoops.{rule-left, none-left}
 use Rattle.firing.proofs.Going.{Going, going-start, going-more, going-end}
 use Rattle.resolver.proofs.SetRuns.{CleanLine, clean-line, run-end, run-heading, run-ignored, run-miss, run-hit}
+
+-- the field of the matched layout, by its place
+pub kth : (fs : List Text) (y : Text) (i k : ℕ) → y ≡ getD fs i [] → i ≡ k - 1 → y ≡ getD fs (k - 1) []
+kth fs y i k e h = rw h at e
 
 -- a rule's values do not look at the options
 rule-options : (m l v o : Text) (n k : ℕ) (cs : List ℕ) (ws : Words) →

@@ -143,11 +143,11 @@ module _ (pr : Profile) (s t u : Text) (p : Progress) (q : Cursors) (d : Text) (
 
       pub walk-group : (t′ : Text) (rows′ : List Bool) → Noted pr s t t′ rows′ (p .groups) (from + getD u 0 0 + 1) (from + getD u 1 0) →
           WalkedLine pr s t t′ rows′ d d (record { progress = p; cursors = q })
-          (record { progress = record { at = from + r .next; line = m + r .line; groups = p .groups + 1; present = noHeading; fault = 0 }; cursors = q })
+          (record { progress = record { at = from + r .next; line = m + r .line; groups = p .groups + 1; present = noHeading; fault = 0; heading = h }; cursors = q })
       walk-group t′ rows′ n =
           let a : Adds s t t′ (p .groups) (from + getD u 0 0 + 1) (from + getD u 1 0) 0 =
           record { size = n .named .size; fault = sym (rw name-is at fault-of); named = λ z. n .named; names = λ z. n .names } in
-          let f : leftFirings pr s t p ≡ leftFirings pr s t′ (record { at = from + r .next; line = m + r .line; groups = p .groups + 1; present = noHeading; fault = 0 }) =
+          let f : leftFirings pr s t p ≡ leftFirings pr s t′ (record { at = from + r .next; line = m + r .line; groups = p .groups + 1; present = noHeading; fault = 0; heading = h }) =
           fires-line _ entry ∙
           (next-group (groupsAt s t (p .groups)) pr _ _ lines-on ∙
           (rw (name-is, ← members-are, ← n .groups) (sym (fires-is pr s t′ _)))) in
@@ -203,7 +203,7 @@ module _ (pr : Profile) (s t u : Text) (p : Progress) (q : Cursors) (d : Text) (
 
     module _ (g : Present) (ge : g ≡ presentOf (y .heading)) where
       abbrev next : Progress
-      next = record { at = from + r .next; line = m + r .line; groups = p .groups; present = g; fault = 0 }
+      next = record { at = from + r .next; line = m + r .line; groups = p .groups; present = g; fault = 0; heading = h }
 
       onward : Onward s t t p next
       onward = rw ge (step-set s t u p h from m x r xe lt o v w (kind.Set (presentOf (y .heading))) of-kind (presentOf (y .heading)) refl .right refl)

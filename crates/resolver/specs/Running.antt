@@ -76,7 +76,7 @@ pub record FiredLineOf (p : Profile) (h : Heading) (s : Text) (from n : ℕ) (d 
 -- The next heading from the line at `at` on, which has the number n: what fires and what is refused before it, for whatever groups and heading so far, is
 -- nothing; or there is none.
 pub record NextHeading (s : Text) (at n : ℕ) (r : HeadingAt) : Type 0 where
-  pub low : at ≤ r .start
+  pub fewer : length (follow s (r .start) (r .number)) ≤ length (follow s at n)
   pub high : r .start ≤ length s
   pub few : r .number ≤ r .start + 1
   pub fires : (gs : Groups) (p : Profile) → firingsFrom gs p (follow s at n) ≡ firingsFrom gs p (follow s (r .start) (r .number))

@@ -25,3 +25,9 @@ pub struct HeadingAt {
     pub at: usize,
     pub line: usize,
 }
+
+// The answer of a resolve, and how many headings of the file are listed.
+pub struct ListedAnswer {
+    pub outcome: answers::Outcome,
+    pub heads: usize,
+}

@@ -9,8 +9,10 @@ ghost use Rattle.profile.specs.Refusals.{profileRefusals};
 ghost use Rattle.rules.specs.Faults.{lineFaults};
 ghost use Rattle.answers.specs.Answer.{answer, refused as refusedAt, outcome, noRoom, Resolved};
 ghost use Rattle.firing.specs.Writing.{Low};
-ghost use Rattle.firing.specs.Stage.{stageSize, Staged};
+ghost use Rattle.firing.specs.Stage.{stageSize};
+ghost use Rattle.resolver.specs.Heads.{AllHeads, StagedListed};
 ghost use Rattle.resolver.specs.Running.{FiredFile};
+use super::ListedAnswer;
 use super::walking::walk;
 use answers::Outcome;
 use firing::Cursors;
@@ -49,6 +51,8 @@ fn no_room(room: usize, total: u32) -> bool
 // All that an accepted file fires for an accepted profile, written from ten positions on: the positions after it.
 fn fire_file(
     s: &[u8],
+    heads: &[usize; 512],
+    count: usize,
     model: &[u8],
     layouts: &[u8],
     variants: &[u8],
@@ -57,7 +61,7 @@ fn fire_file(
     buf: &mut [u8],
 ) -> [u32; 10]
     requires { ⌜ (profileRefusals (textsOf (now model) (now layouts) (now variants) (now options)) ≡ []) × (lineFaults (now s) ≡ [])
-        × (length (now buf) ≤ farthest) × Low at ⌝ }
+        × (length (now buf) ≤ farthest) × Low at × AllHeads (now s) (now heads) count ⌝ }
     ensures { λ r. ⌜ FiredFile (profileOf (textsOf (now (model .entry)) (now (layouts .entry)) (now (variants .entry)) (now (options .entry))))
         (now (s .entry)) (now (buf .entry)) (now (buf .exit)) at r ⌝ }
 {
@@ -78,6 +82,8 @@ fn fire_file(
         s,
         &t,
         fence,
+        heads,
+        count,
         &mut places,
         &mut names,
         &mut rows,
@@ -95,7 +101,8 @@ fn fire_file(
     m.at
 }
 
-// The answer of a resolve that is lent `room` bytes. The texts are left in the stage, each in its region, unless one is longer than that.
+// The answer of a resolve that is lent `room` bytes. The texts are left in the stage, each in its region, unless one is longer than that; and the headings of an accepted
+// file are listed.
 fn staged(
     s: &[u8],
     model: &[u8],
@@ -104,35 +111,58 @@ fn staged(
     options: &[u8],
     room: usize,
     stage: &mut [u8],
-) -> Outcome
+    heads: &mut [usize; 512],
+) -> ListedAnswer
     requires { ⌜ length (now stage) ≡ stageSize ⌝ }
-    ensures { λ r. ⌜ Staged room (now (s .entry)) (textsOf (now (model .entry)) (now (layouts .entry)) (now (variants .entry)) (now (options .entry)))
-        (now (stage .exit)) r ⌝ }
+    ensures { λ r. ⌜ StagedListed room (now (s .entry)) (textsOf (now (model .entry)) (now (layouts .entry)) (now (variants .entry)) (now (options .entry)))
+        (now (stage .exit)) (now (heads .exit)) r ⌝ }
 {
     let p = profile::check(model, layouts, variants, options);
     if p.number != 0 {
-        return refused(p);
+        return ListedAnswer {
+            outcome: refused(p),
+            heads: 0,
+        };
     }
     let mut names: [usize; 128] = [0; 128];
-    let c = check_file(s, &mut names);
+    let c = check_file(s, &mut names, heads);
     let f = c.refusal;
     if f.number != 0 {
-        return refused(f);
+        return ListedAnswer {
+            outcome: refused(f),
+            heads: 0,
+        };
     }
     let starts = REGIONS;
-    let ends = fire_file(s, model, layouts, variants, options, starts, stage);
+    let ends = fire_file(
+        s,
+        heads,
+        c.heads,
+        model,
+        layouts,
+        variants,
+        options,
+        starts,
+        stage,
+    );
     let lengths = lengths_between(starts, ends);
     let sums = places(lengths);
     if no_room(room, sums.total) {
-        return refused(Refusal {
-            number: 11,
-            place: 0,
-        });
+        return ListedAnswer {
+            outcome: refused(Refusal {
+                number: 11,
+                place: 0,
+            }),
+            heads: 0,
+        };
     }
-    Outcome {
-        number: 0,
-        place: 0,
-        lengths,
+    ListedAnswer {
+        outcome: Outcome {
+            number: 0,
+            place: 0,
+            lengths,
+        },
+        heads: c.heads,
     }
 }
 
@@ -149,7 +179,18 @@ pub fn measure(
         (textsOf (now (model .entry)) (now (layouts .entry)) (now (variants .entry)) (now (options .entry)))) ⌝ }
 {
     let mut stage: [u8; 10240] = [0; 10240];
-    staged(s, model, layouts, variants, options, room, &mut stage)
+    let mut heads: [usize; 512] = [0; 512];
+    let r = staged(
+        s,
+        model,
+        layouts,
+        variants,
+        options,
+        room,
+        &mut stage,
+        &mut heads,
+    );
+    r.outcome
 }
 
 // The answer of a resolve, with the ten texts at the start of the buffer; at a refusal the buffer is as it was.
@@ -165,7 +206,18 @@ pub fn resolve(
         (now (buf .entry)) (now (buf .exit)) r ⌝ }
 {
     let mut stage: [u8; 10240] = [0; 10240];
-    let a = staged(s, model, layouts, variants, options, buf.len(), &mut stage);
+    let mut heads: [usize; 512] = [0; 512];
+    let r = staged(
+        s,
+        model,
+        layouts,
+        variants,
+        options,
+        buf.len(),
+        &mut stage,
+        &mut heads,
+    );
+    let a = r.outcome;
     if a.number != 0 {
         return a;
     }
@@ -180,6 +232,8 @@ pub fn resolve(
     let total = sums.total as usize;
     fire_file(
         s,
+        &heads,
+        r.heads,
         model,
         layouts,
         variants,

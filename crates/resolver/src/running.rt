@@ -24,11 +24,13 @@ use firing::rule::fire_rule;
 use matching::columns::left_word;
 use matching::ranges::has_options;
 use matching::ranges::layout_range;
+use profile::fields::field;
 use rules::SetHeading;
 use rules::check::fence_behind;
 use rules::lines::split_line;
 use text::reader::open_line;
 use text::reader::pass_line;
+use values::fill::place;
 
 // A rule whose left words match, its line from `from` on: its right words fire at the layout k.
 fn fire_line(
@@ -118,6 +120,8 @@ pub fn run_set(
 {
     let columns = h.columns;
     let left = h.left;
+    let layout = field(layouts, place(k));
+    let variant = field(variants, place(k));
     let mut m = q;
     let mut at = start;
     let mut line = number;
@@ -138,6 +142,8 @@ pub fn run_set(
                 l,
                 columns[c],
                 k,
+                layout,
+                variant,
                 names,
                 rows,
                 groups,

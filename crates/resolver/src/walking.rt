@@ -2,7 +2,7 @@
 ghost use mathlib.Core.Path.{_≡_};
 ghost use mathlib.Core.Bool.{true};
 ghost use mathlib.Core.List.{[]};
-ghost use Prim.Native.Nat.{_≤_, _<_};
+ghost use Prim.Native.Nat.{_≤_, _<_, _+_, min};
 ghost use lib.ListN.{length};
 ghost use Rattle.text.specs.Limits.{mostOptions};
 ghost use Rattle.text.specs.Reading.{Table, Fenced, Within, Opens};
@@ -10,7 +10,8 @@ ghost use Rattle.output.specs.Store.{farthest};
 ghost use Rattle.profile.specs.Profile.{fields, optionsOf, textsOf, profileOf};
 ghost use Rattle.profile.specs.Listing.{Listed};
 ghost use Rattle.rules.specs.Faults.{lineFaults};
-ghost use Rattle.rules.specs.Checking.{Ready, leftFaults};
+ghost use Rattle.rules.specs.Checking.{Ready, leftFaults, mostHeads};
+ghost use Rattle.resolver.specs.Heads.{AllHeads, NextHead, KthHeading};
 ghost use Rattle.values.specs.Filling.{Short};
 ghost use Rattle.matching.specs.Groups.{Rowed};
 ghost use Rattle.firing.specs.Writing.{Low};
@@ -60,6 +61,51 @@ fn next_heading(s: &[u8], t: &[u8; 512], fence: usize, at: usize, line: usize) -
         at: i,
         line: l,
     }
+}
+
+// The number of the heading after the k-th; behind the last that may be listed they are all one.
+fn number_after(k: usize) -> usize
+    ensures { λ r. ⌜ r ≡ min (k + 1) mostHeads ⌝ }
+{
+    if k < 256 { k + 1 } else { 256 }
+}
+
+// The k-th heading, from the list of the first `count`. Where they are not all listed and k is behind them, it is looked for from a line on.
+fn find_heading(
+    s: &[u8],
+    t: &[u8; 512],
+    fence: usize,
+    heads: &[usize; 512],
+    count: usize,
+    k: usize,
+    at: usize,
+    line: usize,
+) -> HeadingAt
+    requires { ⌜ Within (now s) (now t) fence at line × AllHeads (now s) (now heads) count × NextHead (now s) count k at line ⌝ }
+    ensures { λ r. ⌜ NextHeading (now (s .entry)) at line r × KthHeading (now (s .entry)) count k r ⌝ }
+{
+    if k < count {
+        let start = heads[2 * k];
+        let number = heads[2 * k + 1];
+        let o = open_line(s, t, start, number);
+        return HeadingAt {
+            found: true,
+            start,
+            number,
+            at: o.at,
+            line: o.line,
+        };
+    }
+    if count < 256 {
+        return HeadingAt {
+            found: false,
+            start: s.len(),
+            number: line,
+            at: s.len(),
+            line,
+        };
+    }
+    next_heading(s, t, fence, at, line)
 }
 
 // A heading, whose words begin at `from`: a group is noted, a set is run.
@@ -131,6 +177,7 @@ fn walk_heading(
                     right: 0,
                 },
                 fault: 0,
+                heading: true,
             },
             cursors,
         };
@@ -170,6 +217,7 @@ fn walk_heading(
                 right: h.right,
             },
             fault: 0,
+            heading: true,
         },
         cursors,
     }
@@ -180,6 +228,8 @@ pub fn walk(
     s: &[u8],
     t: &[u8; 512],
     fence: usize,
+    heads: &[usize; 512],
+    count: usize,
     places: &mut [usize],
     names: &mut [usize; 128],
     rows: &mut [bool; 640],
@@ -199,11 +249,12 @@ pub fn walk(
         × (n ≡ length (fields (now layouts))) × (1 ≤ n) × (n ≤ 4)
         × Short (now model) (now layouts) (now variants)
         × (8192 ≤ length (now scratch)) × (length (now scratch) ≤ farthest) × (length (now buf) ≤ farthest) × Low (q .at)
-        × (lineFaults (now s) ≡ []) ⌝ }
+        × (lineFaults (now s) ≡ []) × AllHeads (now s) (now heads) count ⌝ }
     ensures { λ r. ⌜ WalkedFile (profileOf (textsOf (now (model .entry)) (now (layouts .entry)) (now (variants .entry)) (now (options .entry))))
         (now (s .entry)) (now (buf .entry)) (now (buf .exit)) q r ⌝ }
 {
     let mut at: usize = 0;
+    let mut k: usize = 0;
     let mut w = Walk {
         progress: Progress {
             at: 0,
@@ -215,12 +266,13 @@ pub fn walk(
                 right: 0,
             },
             fault: 0,
+            heading: false,
         },
         cursors: q,
     };
     while at < s.len() {
         let p = w.progress;
-        let o = next_heading(s, t, fence, at, p.line);
+        let o = find_heading(s, t, fence, heads, count, k, at, p.line);
         if !o.found {
             return w.cursors;
         }
@@ -251,12 +303,14 @@ pub fn walk(
                     groups: p.groups,
                     present,
                     fault: 0,
+                    heading: false,
                 },
                 cursors,
             },
         );
         let r = w.progress;
         at = r.at;
+        k = number_after(k);
     }
     w.cursors
 }

@@ -113,7 +113,7 @@ pub record Carries (s t t′ : Text) (p r : Progress) (e : Entry) : Type 0 where
   pub left : r .fault ≡ 0 → r .present .left ≤ 4
   pub right : r .fault ≡ 0 → r .present .right ≤ 5
 
-module _ (s t t′ : Text) (p r : Progress) (ws : Words) (h : Bool)
+module _ (s t t′ : Text) (p r : Progress) (ws : Words) (h : Bool) (is : r .heading ≡ h)
     (read : follow s (p .at) (p .line) ≡ lineOf (p .line) h ws ∷ follow s (r .at) (r .line))
     (v : Carries s t t′ p r (entryOf (lineOf (p .line) h ws))) where
   left-faults : leftFaults s t p ≡ refusedAs (r .fault) (p .line) ++
@@ -132,6 +132,8 @@ module _ (s t t′ : Text) (p r : Progress) (ws : Words) (h : Bool)
               further = on;
               faults = left-faults ∙ (refused-none (r .fault) (p .line) _ z ∙ carried-faults z);
               names = carried-names z;
+              words = ws;
+              read = rw is read;
             };
       }
     where
@@ -153,8 +155,8 @@ rest-cons b r = refl
 
 -- each kind of line
 
-module _ (s t : Text) (p : Progress) (a l : ℕ) (w : Ready s t p) (e : Entry) where
-  pub carries-ignored : e ≡ ignored → Carries s t t p (record { at = a; line = l; groups = p .groups; present = p .present; fault = 0 }) e
+module _ (s t : Text) (p : Progress) (a l : ℕ) (b : Bool) (w : Ready s t p) (e : Entry) where
+  pub carries-ignored : e ≡ ignored → Carries s t t p (record { at = a; line = l; groups = p .groups; present = p .present; fault = 0; heading = b }) e
   unfolding lineFault namesAfter presentAfter
   carries-ignored h =
       rw h
@@ -168,7 +170,7 @@ module _ (s t : Text) (p : Progress) (a l : ℕ) (w : Ready s t p) (e : Entry) w
         right = λ z. w .right;
       })
 
-  pub carries-wrong : (k : ℕ) → goodEntry e ≡ true → e ≡ wrong k → Carries s t t p (record { at = a; line = l; groups = p .groups; present = p .present; fault = k }) e
+  pub carries-wrong : (k : ℕ) → goodEntry e ≡ true → e ≡ wrong k → Carries s t t p (record { at = a; line = l; groups = p .groups; present = p .present; fault = k; heading = b }) e
   unfolding lineFault goodEntry
   carries-wrong k g h =
       let q : isNumber k ≡ true = rw h at g in
@@ -183,7 +185,7 @@ module _ (s t : Text) (p : Progress) (a l : ℕ) (w : Ready s t p) (e : Entry) w
         right = λ z. absurd (n z);
       }
 
-  pub carries-set : (q : Present) → IsSetLine e q → Carries s t t p (record { at = a; line = l; groups = p .groups; present = q; fault = 0 }) e
+  pub carries-set : (q : Present) → IsSetLine e q → Carries s t t p (record { at = a; line = l; groups = p .groups; present = q; fault = 0; heading = b }) e
   unfolding lineFault namesAfter presentAfter
   carries-set q h =
       rw (h .is)
@@ -198,7 +200,7 @@ module _ (s t : Text) (p : Progress) (a l : ℕ) (w : Ready s t p) (e : Entry) w
       })
 
   pub carries-rule : (ws : Words) (f : ℕ) → e ≡ rule ws → f ≡ presentFault (p .present) ws →
-      Carries s t t p (record { at = a; line = l; groups = p .groups; present = p .present; fault = f }) e
+      Carries s t t p (record { at = a; line = l; groups = p .groups; present = p .present; fault = f; heading = b }) e
   unfolding lineFault namesAfter presentAfter
   carries-rule ws f h k =
       rw h
@@ -213,7 +215,7 @@ module _ (s t : Text) (p : Progress) (a l : ℕ) (w : Ready s t p) (e : Entry) w
       })
 
   pub carries-group : (t′ g : Text) (ms : Words) (x y f : ℕ) → e ≡ group g ms → g ≡ part s x y → Adds s t t′ (p .groups) x y f →
-      Carries s t t′ p (record { at = a; line = l; groups = p .groups + 1; present = noHeading; fault = f }) e
+      Carries s t t′ p (record { at = a; line = l; groups = p .groups + 1; present = noHeading; fault = f; heading = b }) e
   unfolding lineFault namesAfter presentAfter
   carries-group t′ g ms x y f h k v =
       rw (h, k)
@@ -266,10 +268,10 @@ module _ (s t u : Text) (p : Progress) (h : Bool) (from m : ℕ) (x : Text) (r :
   v : IsSplit h (drop from s) u r
   v = rw xe at v₀
 
-  step-by : (t′ : Text) (q : Progress) → q .at ≡ from + r .next → q .line ≡ m + r .line →
+  step-by : (t′ : Text) (q : Progress) → q .heading ≡ h → q .at ≡ from + r .next → q .line ≡ m + r .line →
       Carries s t t′ p q (entryOf (lineOf (p .line) h (wordsOf (drop from s)))) → Steps s t t′ p q
-  step-by t′ q a b c =
-      carried s t t′ p q (wordsOf (drop from s)) h
+  step-by t′ q z a b c =
+      carried s t t′ p q (wordsOf (drop from s)) h z
       (rw (a, b) (line-read s u (p .at) (p .line) h from m r lt o v))
       c
       (rw a (line-on s u (p .at) (p .line) h from m r lt o v))
@@ -280,30 +282,30 @@ module _ (s t u : Text) (p : Progress) (h : Bool) (from m : ℕ) (x : Text) (r :
     i : IsKind (wordsOf (drop from s)) (entryOf (lineOf 0 h (wordsOf (drop from s)))) k
     i = rw xe at i₀
 
-    pub step-ignored : k ≡ kind.Ignored → Steps s t t p (record { at = from + r .next; line = m + r .line; groups = p .groups; present = p .present; fault = 0 })
+    pub step-ignored : k ≡ kind.Ignored → Steps s t t p (record { at = from + r .next; line = m + r .line; groups = p .groups; present = p .present; fault = 0; heading = h })
     unfolding IsKind
     step-ignored e =
-        step-by t _ refl refl
-        (carries-ignored s t p _ _ w _ (entry-any (p .line) h (wordsOf (drop from s)) ∙ (rw e at i)))
+        step-by t _ refl refl refl
+        (carries-ignored s t p _ _ _ w _ (entry-any (p .line) h (wordsOf (drop from s)) ∙ (rw e at i)))
 
-    pub step-wrong : (n : ℕ) → k ≡ kind.Wrong n → Steps s t t p (record { at = from + r .next; line = m + r .line; groups = p .groups; present = p .present; fault = n })
+    pub step-wrong : (n : ℕ) → k ≡ kind.Wrong n → Steps s t t p (record { at = from + r .next; line = m + r .line; groups = p .groups; present = p .present; fault = n; heading = h })
     unfolding IsKind
     step-wrong n e =
-        step-by t _ refl refl
-        (carries-wrong s t p _ _ w _ n (entry-good (lineOf (p .line) h (wordsOf (drop from s)))) (entry-any (p .line) h (wordsOf (drop from s)) ∙ (rw e at i)))
+        step-by t _ refl refl refl
+        (carries-wrong s t p _ _ _ w _ n (entry-good (lineOf (p .line) h (wordsOf (drop from s)))) (entry-any (p .line) h (wordsOf (drop from s)) ∙ (rw e at i)))
 
-    pub step-set : (q : Present) → k ≡ kind.Set q → Steps s t t p (record { at = from + r .next; line = m + r .line; groups = p .groups; present = q; fault = 0 })
+    pub step-set : (q : Present) → k ≡ kind.Set q → Steps s t t p (record { at = from + r .next; line = m + r .line; groups = p .groups; present = q; fault = 0; heading = h })
     unfolding IsKind
     step-set q e =
-        step-by t _ refl refl
-        (carries-set s t p _ _ w _ q (rw (entry-any (p .line) h (wordsOf (drop from s))) (rw e at i)))
+        step-by t _ refl refl refl
+        (carries-set s t p _ _ _ w _ q (rw (entry-any (p .line) h (wordsOf (drop from s))) (rw e at i)))
 
     pub step-rule : (f : ℕ) → k ≡ kind.Rule → f ≡ presentFault (p .present) (wordsOf x) →
-        Steps s t t p (record { at = from + r .next; line = m + r .line; groups = p .groups; present = p .present; fault = f })
+        Steps s t t p (record { at = from + r .next; line = m + r .line; groups = p .groups; present = p .present; fault = f; heading = h })
     unfolding IsKind
     step-rule f e g =
-        step-by t _ refl refl
-        (carries-rule s t p _ _ w _ (wordsOf (drop from s)) f (entry-any (p .line) h (wordsOf (drop from s)) ∙ (rw e at i)) (rw xe at g))
+        step-by t _ refl refl refl
+        (carries-rule s t p _ _ _ w _ (wordsOf (drop from s)) f (entry-any (p .line) h (wordsOf (drop from s)) ∙ (rw e at i)) (rw xe at g))
 
     module _ (e : k ≡ kind.Group) where
       pub group-is : (entryOf (lineOf 0 h (wordsOf (drop from s))) ≡ group (rest (getD (wordsOf (drop from s)) 0 [])) (drop 2 (wordsOf (drop from s)))) ×
@@ -322,20 +324,20 @@ module _ (s t u : Text) (p : Progress) (h : Bool) (from m : ℕ) (x : Text) (r :
       group-high = name-high s from _ _ _ (o .high) group-word (group-is .2)
 
       pub step-group : (t′ : Text) (f : ℕ) → Adds s t t′ (p .groups) (from + getD u 0 0 + 1) (from + getD u 1 0) f →
-          Steps s t t′ p (record { at = from + r .next; line = m + r .line; groups = p .groups + 1; present = noHeading; fault = f })
+          Steps s t t′ p (record { at = from + r .next; line = m + r .line; groups = p .groups + 1; present = noHeading; fault = f; heading = h })
       step-group t′ f a =
-          step-by t′ _ refl refl
-          (carries-group s t p _ _ w _ t′ (rest (getD (wordsOf (drop from s)) 0 [])) (drop 2 (wordsOf (drop from s))) _ _ f
+          step-by t′ _ refl refl refl
+          (carries-group s t p _ _ _ w _ t′ (rest (getD (wordsOf (drop from s)) 0 [])) (drop 2 (wordsOf (drop from s))) _ _ f
           (entry-any (p .line) h (wordsOf (drop from s)) ∙ group-is .0)
           (name-text s from _ _ _ (o .high) group-word (group-is .2))
           a)
 
 -- a line that is read at one go
 pub step-plain : (s t : Text) (p : Progress) (e : ℕ) → Ready s t p → LineRead s (p .at) (p .present) e →
-    Steps s t t p (record { at = e; line = p .line + 1; groups = p .groups; present = p .present; fault = 0 })
+    Steps s t t p (record { at = e; line = p .line + 1; groups = p .groups; present = p .present; fault = 0; heading = false })
 step-plain s t p e w r =
     let v = r .passes (p .line) in
-    carried s t t p (record { at = e; line = p .line + 1; groups = p .groups; present = p .present; fault = 0 }) (r .words) false (r .read (p .line) (w .few))
+    carried s t t p (record { at = e; line = p .line + 1; groups = p .groups; present = p .present; fault = 0; heading = false }) (r .words) false refl (r .read (p .line) (w .few))
     (record {
       size = w .named .size;
       fault = sym (v .fault (namesAt s t (p .groups)));

@@ -6,7 +6,7 @@ use mathlib.Core.List.{List, [], _∷_}
 use mathlib.Core.Bool.{Bool, true, false, not, _||_, _&&_, cond}
 use lib.ListN.{length, getD, take, drop}
 use lib.Dec.{eqb, ltb}
-use borrow.Author.Tests.{eq-eqb, ne-eqb, eqb-true, not-true, not-false}
+use borrow.Author.Tests.{eq-eqb, ne-eqb, eqb-true, eqb-false}
 use Rattle.text.specs.Bytes.{Text, Words, allOf, anyOf, part}
 use Rattle.text.specs.Lines.{Line}
 use Rattle.text.specs.Words.{badByte, tooLong, wordsFault}
@@ -16,11 +16,12 @@ use Rattle.text.proofs.ByteKinds.{not-bad, kind-zero}
 use Rattle.text.proofs.Readers.{lineAt, line-first, fault-cons, fault-nil, lower-zero, blanks-start, between-skip, between-feed, opened-skip, opened-same, fence-in}
 use Rattle.rules.specs.declared.Present.{Present}
 use Rattle.rules.specs.Words.{isEquals, ordinary, leftWord}
-use Rattle.rules.specs.Percent.{malformed}
+use Rattle.rules.specs.Percent.{pieces, badPiece, malformed}
 use Rattle.rules.specs.Entries.{Entry, ignored, rule, ruleEntry, entryOf}
 use Rattle.rules.specs.Faults.{ruleShape, shapeFault}
 use Rattle.rules.specs.Checking.{lineOf, presentFault, lineFault, presentAfter, namesAfter}
-use Rattle.rules.specs.Plain.{goodRight, goodLeft, LeftRead, RightRead, RuleRead, Passes, LineRead}
+use Rattle.rules.proofs.Pieces.{pieces-byte}
+use Rattle.rules.specs.Plain.{goodRight, goodLeft, LeftRead, RightWord, RightRead, RuleRead, Passes, LineRead}
 
 right-cons : (i : Bool) (j r : ℕ) (w : Text) (ws : Words) → j ≡ suc r → faultOf w ≡ 0 → ordinary w ≡ true → malformed i w ≡ false → goodRight i j (w ∷ ws) ≡ goodRight i r ws
 unfolding goodRight
@@ -61,6 +62,24 @@ module _ (s : Text) (f from n at j : ℕ) (v : Lefts s f from n at j) where
       let q : j ≡ 0 = omega arith in
       record { low = v .low; inside = v .inside; words = rw q at (v .words); onto = v .onto }
 
+-- a word without percent signs is not malformed
+no-percent : (i : Bool) (w : Text) → anyOf (λ b. eqb b 37) w ≡ false → malformed i w ≡ false
+unfolding malformed pieces badPiece anyOf
+no-percent i [] h = refl
+no-percent i (b ∷ w) h = go (eqb b 37) refl h (no-percent i w)
+  where
+    go : (t : Bool) → eqb b 37 ≡ t → (t || anyOf (λ x. eqb x 37) w) ≡ false → (anyOf (λ x. eqb x 37) w ≡ false → malformed i w ≡ false) → malformed i (b ∷ w) ≡ false
+    go true e k f = absurd (no (sym k))
+    go false e k f = rw (pieces-byte b w (eqb-false b 37 e)) (f k)
+
+pub word-plain : (s : Text) (f : ℕ) (i : Bool) (from a e : ℕ) → PlainFound s f from a e × (anyOf (λ b. eqb b 37) (part s a e) ≡ false) → ordinary (part s a e) ≡ true →
+    RightWord s f i from e
+word-plain s f i from a e w o = record { start = a; word = w .0; plain = o; sound = no-percent i (part s a e) (w .1) }
+
+pub word-percent : (s : Text) (f : ℕ) (i : Bool) (from a e : ℕ) → PlainFound s f from a e → ordinary (part s a e) ≡ true → malformed i (part s a e) ≡ false →
+    RightWord s f i from e
+word-percent s f i from a e w o m = record { start = a; word = w; plain = o; sound = m }
+
 -- j right words are still to be read
 pub record Rights (s : Text) (f : ℕ) (i : Bool) (from n at j : ℕ) : Type 0 where
   pub low : from ≤ at
@@ -72,14 +91,16 @@ pub rights-start : (s : Text) (f : ℕ) (i : Bool) (from n : ℕ) → from < f �
 rights-start s f i from n h = record { low = omega arith; inside = h; words = refl; onto = λ m l. refl }
 
 module _ (s : Text) (f : ℕ) (i : Bool) (from n at j : ℕ) (v : Rights s f i from n at j) where
-  pub rights-more : (a e : ℕ) → 0 < j → PlainFound s f at a e → ordinary (part s a e) ≡ true → malformed i (part s a e) ≡ false → Rights s f i from n e (j - 1)
-  rights-more a e h w o p =
+  pub rights-more : (e : ℕ) → 0 < j → RightWord s f i at e → Rights s f i from n e (j - 1)
+  rights-more e h r =
+      let a = r .start in
+      let w = r .word in
       let u = w .found 0 (omega arith) in
       let q : j ≡ suc (j - 1) = omega arith in
       record {
         low = omega (arith, v .low, u .low, u .some);
         inside = w .inside;
-        words = v .words ∙ (rw (u .text) (right-cons i j (j - 1) (part s a e) (left s e) q (sym (u .fault)) o p));
+        words = v .words ∙ (rw (u .text) (right-cons i j (j - 1) (part s a e) (left s e) q (sym (u .fault)) (r .plain) (r .sound)));
         onto = λ m l. v .onto m l ∙ w .found m (omega (arith, l, v .low)) .onto;
       }
 

@@ -2,14 +2,14 @@
 use Prim.Native.Nat.{ℕ, zero, suc, _+_, _*_, _≤_, _<_}
 use mathlib.Core.Path.{_≡_}
 use mathlib.Core.List.{List, [], _∷_, _++_}
-use mathlib.Core.Bool.{Bool, true, false, _||_, cond}
-use lib.ListN.{length, getD, drop}
-use lib.Dec.{eqb, leb}
+use mathlib.Core.Bool.{Bool, true, false, _||_, _&&_, cond}
+use lib.ListN.{length, getD, drop, set}
+use lib.Dec.{eqb, ltb, leb}
 use Rattle.text.specs.declared.Refusal.{Refusal}
 use Rattle.text.specs.Limits.{mostGroups}
 use Rattle.text.specs.Bytes.{Text, Words, same, rest, allOf, anyOf, part}
 use Rattle.text.specs.Refusals.{refusedAs, firstRefusal}
-use Rattle.text.specs.Lines.{Line}
+use Rattle.text.specs.Lines.{Line, lines}
 use Rattle.text.specs.Reading.{follow}
 use Rattle.rules.specs.declared.Present.{Present}
 use Rattle.rules.specs.declared.LineKind.{LineKind}
@@ -20,7 +20,7 @@ use Rattle.rules.specs.declared.Index.{Index}
 use Rattle.rules.specs.Words.{isGroupName, ordinary}
 use Rattle.rules.specs.Percent.{malformed}
 use Rattle.rules.specs.Headings.{Heading, hasWord}
-use Rattle.rules.specs.Entries.{Entry, ignored, wrong, group, set, rule, entryOf}
+use Rattle.rules.specs.Entries.{Entry, ignored, wrong, group, set as setOf, rule, entryOf}
 use Rattle.rules.specs.Faults.{shapeFault, fileRefusals}
 use Rattle.rules.specs.Names.{definesOf}
 
@@ -50,7 +50,7 @@ unfoldable pub lineFault : List Text → Present → Entry → ℕ
 lineFault ns p ignored = 0
 lineFault ns p (wrong k) = k
 lineFault ns p (group g ms) = cond (anyOf (same g) ns || leb mostGroups (length ns)) 10 0
-lineFault ns p (set h) = 0
+lineFault ns p (setOf h) = 0
 lineFault ns p (rule ws) = presentFault p ws
 
 -- what is carried on
@@ -58,14 +58,14 @@ unfoldable pub presentAfter : Present → Entry → Present
 presentAfter p ignored = p
 presentAfter p (wrong k) = noHeading
 presentAfter p (group g ms) = noHeading
-presentAfter p (set h) = presentOf h
+presentAfter p (setOf h) = presentOf h
 presentAfter p (rule ws) = p
 
 unfoldable pub namesAfter : List Text → Entry → List Text
 namesAfter ns ignored = ns
 namesAfter ns (wrong k) = ns
 namesAfter ns (group g ms) = g ∷ ns
-namesAfter ns (set h) = ns
+namesAfter ns (setOf h) = ns
 namesAfter ns (rule ws) = ns
 
 unfoldable pub checkFrom : List Text → Present → List Line → List Refusal
@@ -80,7 +80,7 @@ namesFrom ns (l ∷ ls) = namesFrom (namesAfter ns (entryOf l)) ls
 -- the heading that a line is, with at most four columns and five components
 pub record IsSetLine (e : Entry) (p : Present) : Type 0 where
   pub heading : Heading
-  pub is : e ≡ set heading
+  pub is : e ≡ setOf heading
   pub present : p ≡ presentOf heading
   pub left : p .left ≤ 4
   pub right : p .right ≤ 5
@@ -132,14 +132,48 @@ pub record Onward (s t t′ : Text) (p r : Progress) : Type 0 where
   pub further : p .at < r .at
   pub faults : leftFaults s t p ≡ leftFaults s t′ r
   pub names : leftNames s t p ≡ leftNames s t′ r
+  pub words : Words
+  pub read : follow s (p .at) (p .line) ≡ lineOf (p .line) (r .heading) words ∷ follow s (r .at) (r .line)
 
 pub record Steps (s t t′ : Text) (p r : Progress) : Type 0 where
   pub size : length t′ ≡ 128
   pub wrong : (r .fault ≡ 0 → ⊥) → firstRefusal (leftFaults s t p) ≡ record { number = r .fault; place = p .line }
   pub right : r .fault ≡ 0 → Onward s t t′ p r
 
--- What a check promises: the first refusal of the file; and, where there is none, where the names of its groups stand.
-pub record Checks (s t : Text) (r : Checked) : Type 0 where
+-- the lines from the first heading on; from the k-th heading on, counted from 0
+unfoldable pub toHeading : List Line → List Line
+toHeading [] = []
+toHeading (l ∷ ls) = let r = toHeading ls in cond (l .isHeading) (l ∷ ls) r
+
+unfoldable pub fromHeading : ℕ → List Line → List Line
+fromHeading zero ls = toHeading ls
+fromHeading (suc k) ls = toHeading (drop 1 (fromHeading k ls))
+
+abbrev pub mostHeads : ℕ
+mostHeads = 256
+
+-- the line that starts at a and has the number m is the k-th heading
+pub record HeadAt (s : Text) (k a m : ℕ) : Type 0 where
+  pub inside : a < length s
+  pub few : m ≤ a + 1
+  pub line : follow s a m ≡ fromHeading k (lines s)
+
+-- The first n headings are listed: the table holds start and number of each.
+pub record Heads (s : Text) (t : List ℕ) (n : ℕ) : Type 0 where
+  pub size : length t ≡ 2 * mostHeads
+  pub few : n ≤ mostHeads
+  pub head : (k : ℕ) → k < n → HeadAt s k (getD t (2 * k) 0) (getD t (2 * k + 1) 0)
+
+-- one line more, which starts at a and has the number m: a heading is listed while there is room
+pub record Lists (t t′ : List ℕ) (n : ℕ) (h : Bool) (a m r : ℕ) : Type 0 where
+  pub table : t′ ≡ cond (h && ltb n mostHeads) (set (set t (2 * n) a) (2 * n + 1) m) t
+  pub count : r ≡ cond (h && ltb n mostHeads) (n + 1) n
+
+-- What a check promises: the first refusal of the file; and, where there is none, where the names of its groups stand, and where its headings, all of them
+-- if the table has room for more.
+pub record Checks (s t u : Text) (r : Checked) : Type 0 where
   pub refusal : r .refusal ≡ firstRefusal (fileRefusals s)
   pub named : Named s t (r .groups)
   pub names : r .refusal .number ≡ 0 → namesAt s t (r .groups) ≡ definesOf s
+  pub heads : Heads s u (r .heads)
+  pub all : r .refusal .number ≡ 0 → r .heads < mostHeads → fromHeading (r .heads) (lines s) ≡ []

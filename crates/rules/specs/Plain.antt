@@ -5,8 +5,8 @@ use mathlib.Core.List.{List, [], _∷_}
 use mathlib.Core.Bool.{Bool, true, false, not, _&&_}
 use lib.ListN.{length}
 use lib.Dec.{eqb}
-use Rattle.text.specs.Bytes.{Text, Words}
-use Rattle.text.specs.Reading.{left, ahead, follow, faultOf}
+use Rattle.text.specs.Bytes.{Text, Words, part}
+use Rattle.text.specs.Reading.{left, ahead, follow, faultOf, PlainFound}
 use Rattle.rules.specs.declared.Present.{Present}
 use Rattle.rules.specs.Words.{isEquals, ordinary, leftWord}
 use Rattle.rules.specs.Percent.{malformed}
@@ -32,6 +32,13 @@ pub record LeftRead (s : Text) (f from n e : ℕ) : Type 0 where
   pub inside : e < f
   pub words : (i : Bool) (r : ℕ) → goodLeft i r n (left s from) ≡ goodLeft i r 0 (left s e)
   pub onto : (m : ℕ) → m ≤ from + 1 → ahead s from m ≡ ahead s e m
+
+-- a right word, up to e
+pub record RightWord (s : Text) (f : ℕ) (i : Bool) (from e : ℕ) : Type 0 where
+  pub start : ℕ
+  pub word : PlainFound s f from start e
+  pub plain : ordinary (part s start e) ≡ true
+  pub sound : malformed i (part s start e) ≡ false
 
 -- n right words likewise
 pub record RightRead (s : Text) (f : ℕ) (i : Bool) (from n e : ℕ) : Type 0 where

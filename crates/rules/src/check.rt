@@ -7,7 +7,7 @@ ghost use lib.ListN.{length};
 ghost use Rattle.text.specs.Bytes.{same as sameText, anyOf, part};
 ghost use Rattle.text.specs.Reading.{Table, Fenced};
 ghost use Rattle.rules.specs.Splitting.{wordsOf, IsSplit};
-ghost use Rattle.rules.specs.Checking.{namesAt, Named, Adds, Ready, Steps, Checks};
+ghost use Rattle.rules.specs.Checking.{namesAt, Named, Adds, Ready, Steps, Lists, Checks};
 use super::Checked;
 use super::LineKind;
 use super::Present;
@@ -80,18 +80,20 @@ fn check_words(
     let start = p.at;
     let o = open_line(s, t, start, p.line);
     let from = o.at;
+    let heading = o.heading;
     let w = &s[from..];
-    let l = split_line(o.heading, w, t, fence_behind(fence, from), places);
+    let l = split_line(heading, w, t, fence_behind(fence, from), places);
     let at = from + l.next;
     let line = o.line + l.line;
     let present = p.present;
-    match line_kind(o.heading, w, places, l) {
+    match line_kind(heading, w, places, l) {
         LineKind::Ignored => Progress {
             at,
             line,
             groups: p.groups,
             present,
             fault: 0,
+            heading,
         },
         LineKind::Wrong(k) => Progress {
             at,
@@ -99,6 +101,7 @@ fn check_words(
             groups: p.groups,
             present,
             fault: k,
+            heading,
         },
         LineKind::Group => {
             let name = from + places[0] + 1;
@@ -114,14 +117,16 @@ fn check_words(
                     right: 0,
                 },
                 fault,
+                heading,
             }
         }
-        LineKind::Set(heading) => Progress {
+        LineKind::Set(set) => Progress {
             at,
             line,
             groups: p.groups,
-            present: heading,
+            present: set,
             fault: 0,
+            heading,
         },
         LineKind::Rule => {
             let fault = rule_fault(w, places, l.tally.count, present);
@@ -131,6 +136,7 @@ fn check_words(
                 groups: p.groups,
                 present,
                 fault,
+                heading,
             }
         }
     }
@@ -159,14 +165,32 @@ fn check_line(
         groups: p.groups,
         present,
         fault: 0,
+        heading: false,
     }
 }
 
-// The first refusal of a file, 3 to 10, or number 0 and where the names of its groups stand.
-pub fn check_file(s: &[u8], names: &mut [usize; 128]) -> Checked
-    ensures { λ r. ⌜ Checks (now (s .entry)) (now (names .exit)) r ⌝ }
+// One line more: where it starts and its number are listed, if it is a heading and one of the first 256.
+fn list_heading(heads: &mut [usize; 512], n: usize, heading: bool, at: usize, line: usize) -> usize
+    requires { ⌜ length (now heads) ≡ 512 ⌝ }
+    ensures { λ r. ⌜ Lists (now (heads .entry)) (now (heads .exit)) n heading at line r ⌝ }
+{
+    if !heading {
+        return n;
+    }
+    if 256 <= n {
+        return n;
+    }
+    heads[2 * n] = at;
+    heads[2 * n + 1] = line;
+    n + 1
+}
+
+// The first refusal of a file, 3 to 10, or number 0; where the names of its groups stand, and where its first headings.
+pub fn check_file(s: &[u8], names: &mut [usize; 128], heads: &mut [usize; 512]) -> Checked
+    ensures { λ r. ⌜ Checks (now (s .entry)) (now (names .exit)) (now (heads .exit)) r ⌝ }
 {
     *names = [0; 128];
+    *heads = [0; 512];
     if 65536 < s.len() {
         return Checked {
             refusal: Refusal {
@@ -174,6 +198,7 @@ pub fn check_file(s: &[u8], names: &mut [usize; 128]) -> Checked
                 place: 0,
             },
             groups: 0,
+            heads: 0,
         };
     }
     let t = TABLE;
@@ -189,7 +214,9 @@ pub fn check_file(s: &[u8], names: &mut [usize; 128]) -> Checked
             right: 0,
         },
         fault: 0,
+        heading: false,
     };
+    let mut listed: usize = 0;
     while p.at < s.len() {
         let q = check_line(s, &t, fence, &mut places, names, p);
         if q.fault != 0 {
@@ -199,8 +226,10 @@ pub fn check_file(s: &[u8], names: &mut [usize; 128]) -> Checked
                     place: p.line,
                 },
                 groups: 0,
+                heads: 0,
             };
         }
+        listed = list_heading(heads, listed, q.heading, p.at, p.line);
         p = q;
     }
     Checked {
@@ -209,5 +238,6 @@ pub fn check_file(s: &[u8], names: &mut [usize; 128]) -> Checked
             place: 0,
         },
         groups: p.groups,
+        heads: listed,
     }
 }

@@ -98,19 +98,22 @@ pub enum LineKind {
     Rule,
 }
 
-// How far a check has come: the next line's start and number, the groups so far, the present heading, and the refusal of the line before, or 0.
+// How far a check has come: the next line's start and number, the groups so far, the present heading; of the line before, its refusal, or 0, and whether it is
+// a heading.
 pub struct Progress {
     pub at: usize,
     pub line: usize,
     pub groups: usize,
     pub present: Present,
     pub fault: usize,
+    pub heading: bool,
 }
 
-// A file's first refusal, or number 0; and how many groups it has.
+// A file's first refusal, or number 0; how many groups it has; and how many of its headings are listed.
 pub struct Checked {
     pub refusal: text::Refusal,
     pub groups: usize,
+    pub heads: usize,
 }
 
 // Numbers kept in order; `good` as long as none is repeated and there are at most five.

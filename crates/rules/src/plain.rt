@@ -3,7 +3,7 @@
 ghost use mathlib.Core.Path.{_≡_};
 ghost use Prim.Native.Nat.{_<_, _≤_};
 ghost use Rattle.text.specs.Reading.{Table, Fenced};
-ghost use Rattle.rules.specs.Plain.{LeftRead, RightRead, RuleRead, LineRead};
+ghost use Rattle.rules.specs.Plain.{LeftRead, RightWord, RightRead, RuleRead, LineRead};
 use super::Present;
 use super::percent::is_malformed;
 use super::words::is_equals;
@@ -13,6 +13,7 @@ use text::Plain;
 use text::bytes::kind;
 use text::reader::plain_word;
 use text::reader::skip_fast;
+use text::reader::value_word;
 
 // The left words of a rule, n of them.
 fn left_end(s: &[u8], t: &[u8; 512], fence: usize, from: usize, n: usize) -> usize
@@ -38,7 +39,42 @@ fn left_end(s: &[u8], t: &[u8; 512], fence: usize, from: usize, n: usize) -> usi
     at
 }
 
-// The right words of a rule, n of them; `indexed` tells whether the heading has an index word.
+// A right word with percent signs.
+fn percent_word(s: &[u8], t: &[u8; 512], fence: usize, from: usize, indexed: bool) -> usize
+    requires { ⌜ (from < fence) × (Table (now t) × Fenced (now s) fence) ⌝ }
+    ensures { λ r. ⌜ ((r ≡ 0 → ⊥) → RightWord (now (s .entry)) fence indexed from r) ⌝ }
+{
+    match plain_word(s, t, fence, from) {
+        Plain::Word { start, end } => {
+            if !is_ordinary(&s[start..end]) {
+                return 0;
+            }
+            if is_malformed(&s[start..end], indexed) {
+                return 0;
+            }
+            end
+        }
+        Plain::Other => 0,
+    }
+}
+
+// A right word; `indexed` tells whether the heading has an index word.
+fn right_word(s: &[u8], t: &[u8; 512], fence: usize, from: usize, indexed: bool) -> usize
+    requires { ⌜ (from < fence) × (Table (now t) × Fenced (now s) fence) ⌝ }
+    ensures { λ r. ⌜ ((r ≡ 0 → ⊥) → RightWord (now (s .entry)) fence indexed from r) ⌝ }
+{
+    match value_word(s, t, fence, from) {
+        Plain::Word { start, end } => {
+            if !is_ordinary(&s[start..end]) {
+                return 0;
+            }
+            end
+        }
+        Plain::Other => percent_word(s, t, fence, from, indexed),
+    }
+}
+
+// The right words of a rule, n of them.
 fn right_end(s: &[u8], t: &[u8; 512], fence: usize, from: usize, n: usize, indexed: bool) -> usize
     requires { ⌜ (from < fence) × (Table (now t) × Fenced (now s) fence) ⌝ }
     ensures { λ r. ⌜ ((r ≡ 0 → ⊥) → RightRead (now (s .entry)) fence indexed from n r) ⌝ }
@@ -46,21 +82,12 @@ fn right_end(s: &[u8], t: &[u8; 512], fence: usize, from: usize, n: usize, index
     let mut at = from;
     let mut j = n;
     while 0 < j {
-        match plain_word(s, t, fence, at) {
-            Plain::Word { start, end } => {
-                if !is_ordinary(&s[start..end]) {
-                    return 0;
-                }
-                if is_malformed(&s[start..end], indexed) {
-                    return 0;
-                }
-                at = end;
-                j -= 1;
-            }
-            Plain::Other => {
-                return 0;
-            }
+        let e = right_word(s, t, fence, at, indexed);
+        if e == 0 {
+            return 0;
         }
+        at = e;
+        j -= 1;
     }
     at
 }

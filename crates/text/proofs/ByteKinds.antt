@@ -53,7 +53,7 @@ plain-in-word b c h =
     go false true false = refl
     go false false v = refl
 
-abbrev pick : Bool → Bool → Bool → Bool → Bool → ℕ
+abbrev pub pick : Bool → Bool → Bool → Bool → Bool → ℕ
 pick t u v w x = cond t 1 (cond u 1 (cond v 2 (cond w 3 (cond x 3 0))))
 
 pub kind-one : (b c : ℕ) → kindOf b ≡ 1 → (Blank ≡ classOf b c) × (eqb b 10 ≡ false)

@@ -5,8 +5,8 @@ use native.Mathlib.Omega.{arith}
 use mathlib.Core.Path.{_≡_, refl, sym, ap, _∙_}
 use mathlib.Core.List.{List, [], _∷_, _++_}
 use mathlib.Core.Bool.{Bool, true, false, not, _||_, _&&_, cond}
-use borrow.Author.Tests.{ne-eqb, eq-eqb, eqb-true, eqb-false, ltb-true, ltb-false, lt-ltb, le-ltb}
-use lib.Dec.{eqb, ltb}
+use borrow.Author.Tests.{ne-eqb, eq-eqb, eqb-true, eqb-false, ltb-true, ltb-false, lt-ltb, le-ltb, le-leb}
+use lib.Dec.{eqb, ltb, leb}
 use lib.ListN.{length, getD, drop, drop-of-length-le}
 use Rattle.text.specs.declared.Class.{Class}
 use Rattle.text.specs.declared.Class.the-variants.{Blank, Join, Slashes, Bang, Other}
@@ -18,16 +18,58 @@ use Rattle.text.specs.declared.Fast.{Fast}
 use Rattle.text.specs.declared.Fast.the-variants as fast
 use Rattle.text.specs.declared.Plain.{Plain as PlainRead}
 use Rattle.text.specs.declared.Plain.the-variants as plain
-use Rattle.text.specs.Bytes.{Text, Words, first, part, anyOf}
+use Rattle.text.specs.Bytes.{Text, Words, first, part, allOf, anyOf}
 use Rattle.text.specs.Marks.{classOf, Mark, char, gap, join, bang, end, atFeed, atOther, step, marks}
 use Rattle.text.specs.Lines.{run, words, heading, Line, feeds, inside, linesOf, lines}
 use Rattle.text.specs.Words.{badByte, tooLong, wordsFault}
-use Rattle.text.specs.Reading.{left, wordly, inWord, ahead, follow, faultOf, lower, kindOf, Table, Fenced, Within, WordEnd, InWord, PlainEnd, OddWord, CommentEnd, Blanks, Skipped, FoundWord, NoWord, Between, FastWord, PlainFound, PlainWord, NextWord, Opens}
+use Rattle.text.specs.Reading.{left, wordly, inWord, ahead, follow, faultOf, lower, levelOf, kindOf, Table, Fenced, Within, WordEnd, InWord, PlainEnd, RunEnd, OddWord, CommentEnd, Blanks, Skipped, FoundWord, NoWord, Between, FastWord, PlainFound, PlainWord, ValueWord, NextWord, Opens}
 use Rattle.text.proofs.Lists.{no, and-both}
 use Rattle.text.proofs.Positions.{first-drop, part-empty, part-cons, part-snoc, in-word-start, in-word-more, in-word-over, marks-at, step-other, step-feed, comment-words, first-in, any-cons, any-nil, length-part, lines-char, lines-gap, lines-bang, lines-join, lines-end, lines-nil}
-use Rattle.text.proofs.ByteKinds.{Plain, not-bad, plain-in-word, kind-one, kind-stop, Begins, begins-char, kind-zero, join-class, note-class, bang-class, differ}
+use Rattle.text.proofs.ByteKinds.{pick, Plain, not-bad, plain-in-word, kind-one, kind-stop, Begins, begins-char, kind-zero, join-class, note-class, bang-class, differ}
 
 -- plain bytes
+
+-- levels
+
+pub level-clean : (b m : ℕ) → m ≤ 1 → levelOf b ≤ m → badByte b ≡ false
+unfolding levelOf
+level-clean b m k h = go (badByte b) (eqb b 37) h
+  where
+    go : (t u : Bool) → cond t 2 (cond u 1 0) ≤ m → t ≡ false
+    go true u e = absurd (omega (arith, k, e))
+    go false u e = refl
+
+pub level-bad : (b : ℕ) → 1 < levelOf b → badByte b ≡ true
+unfolding levelOf
+level-bad b h = go (badByte b) (eqb b 37) h
+  where
+    go : (t u : Bool) → 1 < cond t 2 (cond u 1 0) → t ≡ true
+    go true u e = refl
+    go false true e = absurd (omega (arith, e))
+    go false false e = absurd (omega (arith, e))
+
+level-plain : (b : ℕ) → leb (levelOf b) 0 ≡ true → eqb b 37 ≡ false
+unfolding levelOf
+level-plain b h = go (badByte b) (eqb b 37) h
+  where
+    go : (t u : Bool) → leb (cond t 2 (cond u 1 0)) 0 ≡ true → u ≡ false
+    go true u e = absurd (no e)
+    go false true e = absurd (no e)
+    go false false e = refl
+
+none-percent : (w : List ℕ) → allOf (λ b. leb (levelOf b) 0) w ≡ true → anyOf (λ b. eqb b 37) w ≡ false
+unfolding allOf anyOf
+none-percent [] h = refl
+none-percent (b ∷ w) h = let a = and-both (leb (levelOf b) 0) _ h in rw (level-plain b (a .0)) (none-percent w (a .1))
+
+all-snoc : (q : ℕ → Bool) (w : List ℕ) (b : ℕ) → allOf q w ≡ true → q b ≡ true → allOf q (w ++ (b ∷ [])) ≡ true
+unfolding allOf
+all-snoc q [] b h k = rw k refl
+all-snoc q (x ∷ w) b h k = let a = and-both (q x) _ h in rw (a .0) (all-snoc q w b (a .1) k)
+
+all-nil : (q : ℕ → Bool) → allOf q [] ≡ true
+unfolding allOf
+all-nil q = refl
 
 any-snoc : (w : List ℕ) (b : ℕ) → anyOf badByte w ≡ false → badByte b ≡ false → anyOf badByte (w ++ (b ∷ [])) ≡ false
 unfolding anyOf
@@ -448,6 +490,9 @@ found s i n r a e m f q h = rw q at h
 pub plainly : (s : List ℕ) (f i : ℕ) (r : PlainRead) (a e : ℕ) → r ≡ plain.Word a e → PlainWord s f i r → PlainFound s f i a e
 plainly s f i r a e q h = rw q at h
 
+pub valued : (s : List ℕ) (f i : ℕ) (r : PlainRead) (a e : ℕ) → r ≡ plain.Word a e → ValueWord s f i r → PlainFound s f i a e × (anyOf (λ b. eqb b 37) (part s a e) ≡ false)
+valued s f i r a e q h = rw q at h
+
 pub stopped : (s : List ℕ) (i n : ℕ) (r : Next) (p m : ℕ) → r ≡ Stop p m → NextWord s i n r → NoWord s i n p m
 stopped s i n r p m q h = rw q at h
 
@@ -461,10 +506,6 @@ unfolding linesOf lineAt
 line-first s n at h = rw (marks-at Start s at h)
 
 -- the table's entries as a flag
-pub stop-flag : (v : ℕ) (x : Bool) → v ≡ cond x 1 0 → not (eqb v 0) ≡ x
-stop-flag v true e = rw e refl
-stop-flag v false e = rw e refl
-
 -- the fence
 
 module _ (s : List ℕ) (f i : ℕ) (v : Fenced s f) (h : i < f) where
@@ -504,32 +545,87 @@ module _ (s : List ℕ) (f i : ℕ) (v : Fenced s f) (h : i < f) where
 pub fenced-none : (s : List ℕ) → Fenced s 0
 fenced-none s = record { high = omega arith; last = λ h. absurd (let z : _≡_ {A = ℕ} 0 1 = omega (arith, h) in eqb-false 0 1 refl z); free = λ h e. let z : _≡_ {A = ℕ} 0 1 = omega (arith, h) in eqb-false 0 1 refl z }
 
--- the loop of `plain_end`, and of `skip_fast`
-pub record FastRun (s : List ℕ) (f from i : ℕ) : Type 0 where
+-- the loop of `run_end`, and of `skip_fast`
+pub record FastRun (s : List ℕ) (f m from i : ℕ) : Type 0 where
   pub run : Run s from i
+  pub below : allOf (λ b. leb (levelOf b) m) (part s from i) ≡ true
   pub inside : i < f
 
-pub fast-start : (s : List ℕ) (f from : ℕ) → Fenced s f → from < f → FastRun s f from from
-fast-start s f from v h = record { run = run-start s from (omega (arith, h, v .high)); inside = h }
+pub fast-start : (s : List ℕ) (f m from : ℕ) → Fenced s f → from < f → FastRun s f m from from
+fast-start s f m from v h = record { run = run-start s from (omega (arith, h, v .high)); below = rw (part-empty s from, all-nil); inside = h }
 
-pub fast-more : (s : List ℕ) (f from i : ℕ) → Fenced s f → FastRun s f from i → badByte (getD s i 0) ≡ false → FastRun s f from (i + 1)
-fast-more s f from i v w b = record { run = run-more s from i (w .run) (omega (arith, w .inside, v .high)) b; inside = fence-plain s f i v (w .inside) b }
+pub fast-more : (s : List ℕ) (f m from i : ℕ) → Fenced s f → m ≤ 1 → FastRun s f m from i → levelOf (getD s i 0) ≤ m → FastRun s f m from (i + 1)
+fast-more s f m from i v k w b =
+    let c = level-clean (getD s i 0) m k b in
+    let h : i < length s = omega (arith, w .inside, v .high) in
+    record {
+      run = run-more s from i (w .run) h c;
+      below = rw (part-snoc s from i (w .run .read .low) h) (all-snoc (λ x. leb (levelOf x) m) _ _ (w .below) (le-leb (levelOf (getD s i 0)) m b));
+      inside = fence-plain s f i v (w .inside) c;
+    }
 
-fast-at : (s : List ℕ) (f from j k : ℕ) → j ≡ k → FastRun s f from j → FastRun s f from k
-fast-at s f from j k e v = rw e at v
+fast-at : (s : List ℕ) (f m from j k : ℕ) → j ≡ k → FastRun s f m from j → FastRun s f m from k
+fast-at s f m from j k e v = rw e at v
 
-module _ (s : List ℕ) (f from i : ℕ) (v : Fenced s f) (w : FastRun s f from i) (b : badByte (getD s i 0) ≡ false) where
-  pub fast-two : badByte (getD s (i + 1) 0) ≡ false → FastRun s f from (i + 2)
-  fast-two b₁ = fast-at s f from (i + 1 + 1) (i + 2) (omega arith) (fast-more s f from (i + 1) v (fast-more s f from i v w b) b₁)
+module _ (s : List ℕ) (f m from i : ℕ) (v : Fenced s f) (k : m ≤ 1) (w : FastRun s f m from i) (b : levelOf (getD s i 0) ≤ m) where
+  pub fast-two : levelOf (getD s (i + 1) 0) ≤ m → FastRun s f m from (i + 2)
+  fast-two b₁ = fast-at s f m from (i + 1 + 1) (i + 2) (omega arith) (fast-more s f m from (i + 1) v k (fast-more s f m from i v k w b) b₁)
 
-  pub fast-three : badByte (getD s (i + 1) 0) ≡ false → badByte (getD s (i + 2) 0) ≡ false → FastRun s f from (i + 3)
-  fast-three b₁ b₂ = fast-at s f from (i + 2 + 1) (i + 3) (omega arith) (fast-more s f from (i + 2) v (fast-two b₁) b₂)
+  pub fast-three : levelOf (getD s (i + 1) 0) ≤ m → levelOf (getD s (i + 2) 0) ≤ m → FastRun s f m from (i + 3)
+  fast-three b₁ b₂ = fast-at s f m from (i + 2 + 1) (i + 3) (omega arith) (fast-more s f m from (i + 2) v k (fast-two b₁) b₂)
 
-  pub fast-four : badByte (getD s (i + 1) 0) ≡ false → badByte (getD s (i + 2) 0) ≡ false → badByte (getD s (i + 3) 0) ≡ false → FastRun s f from (i + 4)
-  fast-four b₁ b₂ b₃ = fast-at s f from (i + 3 + 1) (i + 4) (omega arith) (fast-more s f from (i + 3) v (fast-three b₁ b₂) b₃)
+  pub fast-four : levelOf (getD s (i + 1) 0) ≤ m → levelOf (getD s (i + 2) 0) ≤ m → levelOf (getD s (i + 3) 0) ≤ m → FastRun s f m from (i + 4)
+  fast-four b₁ b₂ b₃ = fast-at s f m from (i + 3 + 1) (i + 4) (omega arith) (fast-more s f m from (i + 3) v k (fast-three b₁ b₂) b₃)
 
-pub fast-stop : (s : List ℕ) (f from i : ℕ) → FastRun s f from i → badByte (getD s i 0) ≡ true → PlainEnd s from i × (i < f)
-fast-stop s f from i w b = (run-stop s from i (w .run) b, w .inside)
+pub fast-stop : (s : List ℕ) (f m from i : ℕ) → FastRun s f m from i → m < levelOf (getD s i 0) → RunEnd s m from i × (i < f)
+fast-stop s f m from i w b = (record { read = w .run .read; clean = w .run .clean; below = w .below; stop = b }, w .inside)
+
+pub over-level : (r l m : ℕ) → r ≡ l → m < r → m < l
+over-level r l m e h = omega arith
+
+pub run-plain : (s : List ℕ) (from i : ℕ) → RunEnd s 1 from i → PlainEnd s from i
+run-plain s from i v = record { read = v .read; clean = v .clean; stop = λ h. level-bad (getD s i 0) (v .stop) }
+
+kind-bad : (b : ℕ) → (kindOf b ≡ 0 → ⊥) → kindOf b ≤ 2 → badByte b ≡ true
+unfolding kindOf badByte
+kind-bad b = go (eqb b 32) (eqb b 9) (eqb b 10) (eqb b 47) refl refl refl
+  where
+    go : (t u v x : Bool) → eqb b 32 ≡ t → eqb b 9 ≡ u → eqb b 10 ≡ v → (pick t u v (badByte b) x ≡ 0 → ⊥) → pick t u v (badByte b) x ≤ 2 → badByte b ≡ true
+    go true u v x p q r n l = rw (eqb-true b 32 p) refl
+    go false true v x p q r n l = rw (eqb-true b 9 q) refl
+    go false false true x p q r n l = rw (eqb-true b 10 r) refl
+    go false false false x p q r n l = bad (badByte b) refl n l
+      where
+        bad : (w : Bool) → badByte b ≡ w → (pick false false false w x ≡ 0 → ⊥) → pick false false false w x ≤ 2 → badByte b ≡ true
+        bad true e n l = e
+        bad false e n l = slash x n l
+          where
+            slash : (y : Bool) → (pick false false false false y ≡ 0 → ⊥) → pick false false false false y ≤ 2 → badByte b ≡ true
+            slash true n l = absurd (omega (arith, l))
+            slash false n l = absurd (n refl)
+
+-- a plain word, from its first byte on
+pub value-found : (s : List ℕ) (f from i p : ℕ) → Fenced s f → Skipped s from i → i < f → kindOf (getD s i 0) ≡ 0 → (getD s i 0 ≡ 37 → ⊥) →
+    RunEnd s 0 (i + 1) p → p < f → (kindOf (getD s p 0) ≡ 0 → ⊥) → kindOf (getD s p 0) ≤ 2 → p ≤ i + 256 →
+    PlainFound s f from i p × (anyOf (λ b. eqb b 37) (part s i p) ≡ false)
+unfolding anyOf
+value-found s f from i p v k h z y r l m n o =
+    let a = fence-in s f i v h in
+    let e : PlainEnd s (i + 1) p = record { read = r .read; clean = r .clean; stop = λ q. kind-bad (getD s p 0) m n } in
+    let lo : i < p = omega (arith, r .read .low) in (
+      record {
+        found = λ q j.
+            between-word s from q i q (between-skip s from q i j (k .blanks)) a p 0 (kind-zero (getD s i 0) (first (drop (i + 1) s)) z .0)
+            (plain-word s i p a (kind-zero (getD s i 0) 0 z .1) e (fence-in s f p v l) n o);
+        inside = l;
+      },
+      rw (part-cons s i p lo (r .read .high)) (first-none (eqb (getD s i 0) 37) refl (none-percent (part s (i + 1) p) (r .below))),
+    )
+  where
+    first-none : (t : Bool) → eqb (getD s i 0) 37 ≡ t → anyOf (λ b. eqb b 37) (part s (i + 1) p) ≡ false →
+        anyOf (λ b. eqb b 37) (getD s i 0 ∷ part s (i + 1) p) ≡ false
+    first-none true e g = absurd (y (eqb-true _ _ e))
+    first-none false e g = rw (e, g) refl
 
 pub record FastBlanks (s : List ℕ) (f from i : ℕ) : Type 0 where
   pub run : Blanks s from i

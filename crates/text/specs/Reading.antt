@@ -3,7 +3,7 @@ use mathlib.Core.Path.{_≡_}
 use Prim.Native.Nat.{ℕ, zero, suc, min, _+_, _-_, _≤_, _<_}
 use mathlib.Core.List.{List, [], _∷_, _++_}
 use mathlib.Core.Bool.{Bool, true, false, cond}
-use lib.Dec.{eqb}
+use lib.Dec.{eqb, leb}
 use lib.ListN.{length, drop, getD}
 use Rattle.text.specs.declared.Class.{Class}
 use Rattle.text.specs.declared.Class.the-variants.{Blank, Join, Slashes, Bang, Other}
@@ -14,7 +14,7 @@ use Rattle.text.specs.declared.Fast.the-variants as fast
 use Rattle.text.specs.declared.Plain.{Plain}
 use Rattle.text.specs.declared.Plain.the-variants as plain
 use Rattle.text.specs.declared.Place.the-variants.{Start, Space, Word, Comment}
-use Rattle.text.specs.Bytes.{Text, Words, anyOf, part}
+use Rattle.text.specs.Bytes.{Text, Words, allOf, anyOf, part}
 use Rattle.text.specs.Marks.{classOf, marks}
 use Rattle.text.specs.Lines.{run, words, heading, Line, linesOf}
 use Rattle.text.specs.Words.{badByte, tooLong}
@@ -50,12 +50,16 @@ lower zero g = g
 lower (suc f) zero = suc f
 lower (suc f) (suc g) = suc (min f g)
 
+-- the level of a byte: 0 a plain byte, 1 a percent sign, 2 a byte that has no place in a plain word
+unfoldable pub levelOf : ℕ → ℕ
+levelOf b = cond (badByte b) 2 (cond (eqb b 37) 1 0)
+
 -- the kind of a byte: 0 a plain byte that is no slash, 1 a blank, 2 LF, 3 any other
 unfoldable pub kindOf : ℕ → ℕ
 kindOf b = cond (eqb b 32) 1 (cond (eqb b 9) 1 (cond (eqb b 10) 2 (cond (badByte b) 3 (cond (eqb b 47) 3 0))))
 
 pub record Table (t : List ℕ) : Type 0 where
-  pub stops : (b : ℕ) → b < 256 → getD t b 0 ≡ cond (badByte b) 1 0
+  pub levels : (b : ℕ) → b < 256 → getD t b 0 ≡ levelOf b
   pub kinds : (b : ℕ) → b < 256 → getD t (256 + b) 0 ≡ kindOf b
 
 -- the byte before f is a LF that ends a line, whatever stands before it; or f is 0
@@ -93,6 +97,13 @@ pub record PlainEnd (s : List ℕ) (at r : ℕ) : Type 0 where
   pub read : InWord s at r
   pub clean : anyOf badByte (part s at r) ≡ false
   pub stop : r < length s → badByte (getD s r 0) ≡ true
+
+-- the word that has begun before `at` goes on up to r with bytes of at most the level m, and the byte at r is above it
+pub record RunEnd (s : List ℕ) (m at r : ℕ) : Type 0 where
+  pub read : InWord s at r
+  pub clean : anyOf badByte (part s at r) ≡ false
+  pub below : allOf (λ b. leb (levelOf b) m) (part s at r) ≡ true
+  pub stop : m < levelOf (getD s r 0)
 
 pub record OddWord (s : List ℕ) (at r f : ℕ) : Type 0 where
   pub ends : WordEnd s (at + 1) r
@@ -173,6 +184,11 @@ pub record PlainFound (s : List ℕ) (f at a e : ℕ) : Type 0 where
 abbrev pub PlainWord : List ℕ → ℕ → ℕ → Plain → Type 0
 PlainWord s f at (plain.Word a e) = PlainFound s f at a e
 PlainWord s f at plain.Other = Unit {0}
+
+-- a plain word without percent signs
+abbrev pub ValueWord : List ℕ → ℕ → ℕ → Plain → Type 0
+ValueWord s f at (plain.Word a e) = PlainFound s f at a e × (anyOf (λ b. eqb b 37) (part s a e) ≡ false)
+ValueWord s f at plain.Other = Unit {0}
 
 abbrev pub NextWord : List ℕ → ℕ → ℕ → Next → Type 0
 NextWord s at n (Found a e m f) = FoundWord s at n a e m f

@@ -4,7 +4,7 @@ ghost use lib.ListN.{drop};
 ghost use Rattle.text.specs.Bytes.{first};
 ghost use Rattle.text.specs.Marks.{classOf};
 ghost use Rattle.text.specs.Words.{badByte};
-ghost use Rattle.text.specs.Reading.{inWord, kindOf, Table, lower as lowerOf};
+ghost use Rattle.text.specs.Reading.{inWord, levelOf, kindOf, Table, lower as lowerOf};
 use super::Class;
 
 pub fn class_of(b: u8, c: u8) -> Class
@@ -50,11 +50,11 @@ pub fn bad_byte(b: u8) -> bool
     b < 33 || (126 < b || b == 92)
 }
 
-pub fn stops(t: &[u8; 512], b: u8) -> bool
+pub fn level(t: &[u8; 512], b: u8) -> u8
     requires { ⌜ Table (now t) ⌝ }
-    ensures { λ r. ⌜ r ≡ badByte b ⌝ }
+    ensures { λ r. ⌜ r ≡ levelOf b ⌝ }
 {
-    t[b as usize] != 0
+    t[b as usize]
 }
 
 pub fn kind(t: &[u8; 512], b: u8) -> u8

@@ -6,7 +6,7 @@ ghost use lib.Dec.{eqb};
 ghost use lib.ListN.{length, getD, drop};
 ghost use Rattle.text.specs.Bytes.{first, part, anyOf};
 ghost use Rattle.text.specs.Words.{badByte};
-ghost use Rattle.text.specs.Reading.{WordEnd, PlainEnd, Skipped, OddWord, CommentEnd, FastWord, PlainWord, NextWord, FirstFeed, Passed, Opens, Table, Fenced, Within};
+ghost use Rattle.text.specs.Reading.{WordEnd, PlainEnd, RunEnd, Skipped, OddWord, CommentEnd, FastWord, PlainWord, ValueWord, NextWord, FirstFeed, Passed, Opens, Table, Fenced, Within};
 use super::Fast;
 use super::LineStart;
 use super::Next;
@@ -16,8 +16,8 @@ use super::WordAt;
 use super::bytes::bad_byte;
 use super::bytes::in_word;
 use super::bytes::kind;
+use super::bytes::level;
 use super::bytes::peek;
-use super::bytes::stops;
 
 pub fn fence_of(s: &[u8]) -> usize
     ensures { λ r. ⌜ Fenced (now (s .entry)) r ⌝ }
@@ -76,26 +76,34 @@ pub fn odd_word(s: &[u8], from: usize) -> WordAt
     WordAt { end, fault: 0 }
 }
 
-pub fn plain_end(s: &[u8], t: &[u8; 512], fence: usize, from: usize) -> usize
-    requires { ⌜ (from < fence) × (Table (now t) × Fenced (now s) fence) ⌝ }
-    ensures { λ r. ⌜ PlainEnd (now (s .entry)) from r × (r < fence) ⌝ }
+// Where bytes of at most the level `most` end, in a word that has begun.
+fn run_end(s: &[u8], t: &[u8; 512], fence: usize, from: usize, most: u8) -> usize
+    requires { ⌜ (from < fence) × (Table (now t) × Fenced (now s) fence) × (most ≤ 1) ⌝ }
+    ensures { λ r. ⌜ RunEnd (now (s .entry)) most from r × (r < fence) ⌝ }
 {
     let mut i = from;
     loop {
-        if stops(t, s[i]) {
+        if most < level(t, s[i]) {
             return i;
         }
-        if stops(t, s[i + 1]) {
+        if most < level(t, s[i + 1]) {
             return i + 1;
         }
-        if stops(t, s[i + 2]) {
+        if most < level(t, s[i + 2]) {
             return i + 2;
         }
-        if stops(t, s[i + 3]) {
+        if most < level(t, s[i + 3]) {
             return i + 3;
         }
         i += 4;
     }
+}
+
+pub fn plain_end(s: &[u8], t: &[u8; 512], fence: usize, from: usize) -> usize
+    requires { ⌜ (from < fence) × (Table (now t) × Fenced (now s) fence) ⌝ }
+    ensures { λ r. ⌜ PlainEnd (now (s .entry)) from r × (r < fence) ⌝ }
+{
+    run_end(s, t, fence, from, 1)
 }
 
 pub fn skip(s: &[u8], t: &[u8; 512], from: usize) -> usize
@@ -256,6 +264,33 @@ pub fn plain_word(s: &[u8], t: &[u8; 512], fence: usize, from: usize) -> Plain
     }
     let p = plain_end(s, t, fence, i + 1);
     if 2 < kind(t, s[p]) {
+        return Plain::Other;
+    }
+    if i + 256 < p {
+        return Plain::Other;
+    }
+    Plain::Word { start: i, end: p }
+}
+
+// A plain word without percent signs, if one is next. `Other` says nothing, as above.
+pub fn value_word(s: &[u8], t: &[u8; 512], fence: usize, from: usize) -> Plain
+    requires { ⌜ (from < fence) × (Table (now t) × Fenced (now s) fence) ⌝ }
+    ensures { λ r. ⌜ ValueWord (now (s .entry)) fence from r ⌝ }
+{
+    let i = skip_fast(s, t, fence, from);
+    let b = s[i];
+    if kind(t, b) != 0 {
+        return Plain::Other;
+    }
+    if b == 37 {
+        return Plain::Other;
+    }
+    let p = run_end(s, t, fence, i + 1, 0);
+    let k = kind(t, s[p]);
+    if k == 0 {
+        return Plain::Other;
+    }
+    if 2 < k {
         return Plain::Other;
     }
     if i + 256 < p {

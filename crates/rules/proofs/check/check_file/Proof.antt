@@ -1,49 +1,50 @@
 use borrow.Author.Needs.{needs}
+use Rattle.rules.proofs.check.check_file.Statement.{statement}
+use Rattle.rules.proofs.check.check_file.Tie as tie
 use Prim.Native.Nat.{_-_}
 use native.Mathlib.Omega.{arith}
 use mathlib.Core.Path.{_≡_, refl, sym}
 use lib.ListN.{length}
 use Rattle.text.specs.Reading.{Table}
 use Rattle.text.proofs.Entries.{entries, table-right}
-use Rattle.rules.proofs.FileChecks.{Scanning, scan-start, scan-end, scan-more, scan-wrong, long-file}
-use Rattle.rules.proofs.check.check_file.Statement.{statement}
-use Rattle.rules.proofs.check.check_file.Tie as tie
-use Rattle.rules.proofs.check.check_line.Reads as check-line-reads
-use Rattle.text.proofs.reader.fence_of.Reads as fence-of-reads
+use Rattle.rules.proofs.FileChecks.{Scanning, Listing, scan-start, scan-end, scan-more, scan-wrong, long-file, list-start, list-more}
 
 abbrev Inv-loop : tie.InvT-loop
-Inv-loop s names₀ t fence places₀ p₀ names places p = Scanning s names p × (length places ≡ 20) × Table t
+Inv-loop s names₀ heads₀ t fence places₀ p₀ listed₀ names heads places p listed = Scanning s names p × Listing s heads listed (p .at) (p .line) × (length places ≡ 20) × Table t
 
 abbrev μ-loop : tie.MeasureT-loop
-μ-loop s names₀ t fence places₀ p₀ names places p = length s - p .at
+μ-loop s names₀ heads₀ t fence places₀ p₀ listed₀ names heads places p listed = length s - p .at
 
 returns : tie.Need-returns Inv-loop μ-loop
-returns c = long-file _ _ refl (c .if1 .taken)
+returns c = long-file _ _ _ refl refl (c .if1 .taken)
 
 fence-of-requires : tie.Need-fence-of-requires Inv-loop μ-loop
 fence-of-requires c κs = search needs
 
 loop-holds : tie.Need-loop-holds Inv-loop μ-loop
 unfolding entries
-loop-holds c = (scan-start _ _ refl, refl, table-right)
+loop-holds c = (scan-start _ _ refl, list-start _ _ refl, refl, table-right)
 
 slice-aggregate-check-line : tie.Need-slice-aggregate-check-line Inv-loop μ-loop
-slice-aggregate-check-line c = sym (c .before .before .before .before .loop .inv .1)
+slice-aggregate-check-line c = sym (c .before .before .before .before .loop .inv .2)
 
 check-line-requires : tie.Need-check-line-requires Inv-loop μ-loop
-check-line-requires c κs = (c .before .before .before .before .before .loop .inv .2, c .before .before .before .before .before .before .fence-of .ensures, c .before .before .before .before .before .loop .inv .1, c .before .before .before .before .before .loop .inv .0 .ready, c .before .before .before .if2 .taken)
+check-line-requires c κs = (c .before .before .before .before .before .loop .inv .3, c .before .before .before .before .before .before .fence-of .ensures, c .before .before .before .before .before .loop .inv .2, c .before .before .before .before .before .loop .inv .0 .ready, c .before .before .before .if2 .taken)
 
 returns-2 : tie.Need-returns-2 Inv-loop μ-loop
-returns-2 c = scan-wrong _ _ _ (c .before .before .before .before .before .before .before .before .before .loop .inv .0) _ _ (c .before .before .before .check-line .ensures .0) (c .before .before .before .before .before .before .before .before .before .before .before .if1 .left) (c .if3 .taken)
+returns-2 c = scan-wrong _ _ _ (c .before .before .before .before .before .before .before .before .before .loop .inv .0) _ _ (c .before .before .before .check-line .ensures .0) _ (c .before .before .before .before .before .before .before .before .before .loop .inv .1 .heads .size) (c .before .before .before .before .before .before .before .before .before .before .before .if1 .left) (c .if3 .taken)
+
+list-heading-requires : tie.Need-list-heading-requires Inv-loop μ-loop
+list-heading-requires c κs = c .before .before .before .before .before .before .before .before .before .before .loop .inv .1 .heads .size
 
 loop-less : tie.Need-loop-less Inv-loop μ-loop
-loop-less c = let o = c .before .before .before .check-line .ensures .0 .right (c .if3 .left) in omega (arith, o .further, o .ready .high)
+loop-less c = let o = c .before .before .before .before .before .check-line .ensures .0 .right (c .before .before .if3 .left) in omega (arith, o .further, o .ready .high)
 
 loop-again : tie.Need-loop-again Inv-loop μ-loop
-loop-again c = (scan-more _ _ _ (c .before .before .before .before .before .before .before .before .before .loop .inv .0) _ _ (c .before .before .before .check-line .ensures .0) (c .if3 .left), c .before .before .before .check-line .ensures .1, c .before .before .before .before .before .before .before .before .before .loop .inv .2)
+loop-again c = let o = c .before .before .before .before .before .check-line .ensures .0 .right (c .before .before .if3 .left) in (scan-more _ _ _ (c .before .before .before .before .before .before .before .before .before .before .before .loop .inv .0) _ _ (c .before .before .before .before .before .check-line .ensures .0) (c .before .before .if3 .left), list-more _ _ _ _ _ _ (c .before .before .before .before .before .before .before .before .before .before .before .loop .inv .1) _ (o .words) _ _ (o .read) _ (c .list-heading .ensures) (c .before .before .before .before .before .before .before .before .before .if2 .taken) (c .before .before .before .before .before .before .before .before .before .before .before .loop .inv .0 .ready .few), c .before .before .before .before .before .check-line .ensures .1, c .before .before .before .before .before .before .before .before .before .before .before .loop .inv .3)
 
 returns-3 : tie.Need-returns-3 Inv-loop μ-loop
-returns-3 c = scan-end _ _ _ (c .before .before .loop .inv .0) (c .before .before .before .before .if1 .left) (c .if2 .left)
+returns-3 c = scan-end _ _ _ (c .before .before .loop .inv .0) _ _ (c .before .before .loop .inv .1) (c .before .before .before .before .if1 .left) (c .if2 .left)
 
 pub check-file-spec : {M : Type 1} → statement M
 check-file-spec =
@@ -57,6 +58,7 @@ check-file-spec =
     slice-aggregate-check-line
     check-line-requires
     returns-2
+    list-heading-requires
     loop-less
     loop-again
     returns-3)

@@ -67,11 +67,11 @@ add-end c = omega (arith, c .before .before .before .before .before .before .bef
 add-group-requires : tie.Need-add-group-requires
 add-group-requires c κs = (c .before .before .before .before .before .before .before .before .before .before .before .before .before .before .before .before .before .before .before .before .pre .3 .named, group-low _ _ _ _ _ _ _ _ _ (tail-whole (c .before .before .before .before .before .before .before .before .before .before .before .before .before .before .before .before .before .before .before .before .args .s .now) (c .before .before .before .before .before .before .before .before .before .before .before .before .before .before .before .before .before .open-line .result .at) (c .before .before .before .before .before .before .before .before .before .before .before .before .before .before .before .before .before .open-line .ensures .high)) (c .before .before .before .before .before .before .before .before .before .before .before .before .before .before .before .before .before .before .before .before .pre .4) (c .before .before .before .before .before .before .before .before .before .before .before .before .before .before .before .before .before .open-line .ensures) (c .before .before .before .before .before .before .before .before .before .before .before .before .before .split-line .ensures) (c .before .before .before .before .before .before .before .before .before .before .before .before .before .before .before .before .before .before .before .before .pre .3) _ (c .before .before .before .before .before .line-kind .ensures) (c .before .before .before .enum-told2 .given .1), group-high _ _ _ _ _ _ _ _ _ (tail-whole (c .before .before .before .before .before .before .before .before .before .before .before .before .before .before .before .before .before .before .before .before .args .s .now) (c .before .before .before .before .before .before .before .before .before .before .before .before .before .before .before .before .before .open-line .result .at) (c .before .before .before .before .before .before .before .before .before .before .before .before .before .before .before .before .before .open-line .ensures .high)) (c .before .before .before .before .before .before .before .before .before .before .before .before .before .before .before .before .before .before .before .before .pre .4) (c .before .before .before .before .before .before .before .before .before .before .before .before .before .before .before .before .before .open-line .ensures) (c .before .before .before .before .before .before .before .before .before .before .before .before .before .split-line .ensures) (c .before .before .before .before .before .before .before .before .before .before .before .before .before .before .before .before .before .before .before .before .pre .3) _ (c .before .before .before .before .before .line-kind .ensures) (c .before .before .before .enum-told2 .given .1))
 
-add-t32 : tie.Need-add-t32
-add-t32 c = omega (arith, c .before .before .before .before .before .before .before .before .before .before .before .before .before .before .before .before .before .before .before .before .before .before .pre .3 .named .few)
+add-t33 : tie.Need-add-t33
+add-t33 c = omega (arith, c .before .before .before .before .before .before .before .before .before .before .before .before .before .before .before .before .before .before .before .before .before .before .pre .3 .named .few)
 
-enum-known-heading : tie.Need-enum-known-heading
-enum-known-heading c = search needs
+enum-known-set : tie.Need-enum-known-set
+enum-known-set c = search needs
 
 enum-told-3 : tie.Need-enum-told-3
 enum-told-3 c = search needs
@@ -101,7 +101,7 @@ same-length-4 : tie.Need-same-length-4
 same-length-4 c = search needs
 
 returns-4 : tie.Need-returns-4
-returns-4 c = (step-set _ _ _ _ _ _ _ _ _ (tail-whole (c .before .before .before .before .before .before .before .before .before .before .before .before .before .before .before .before .before .before .args .s .now) (c .before .before .before .before .before .before .before .before .before .before .before .before .before .before .before .open-line .result .at) (c .before .before .before .before .before .before .before .before .before .before .before .before .before .before .before .open-line .ensures .high)) (c .before .before .before .before .before .before .before .before .before .before .before .before .before .before .before .before .before .before .pre .4) (c .before .before .before .before .before .before .before .before .before .before .before .before .before .before .before .open-line .ensures) (c .before .before .before .before .before .before .before .before .before .before .before .split-line .ensures) (c .before .before .before .before .before .before .before .before .before .before .before .before .before .before .before .before .before .before .pre .3) _ (c .before .before .before .line-kind .ensures) _ (c .before .heading .given .1), c .before .before .before .before .before .before .before .before .before .before .before .split-line .ensures .placed .size)
+returns-4 c = (step-set _ _ _ _ _ _ _ _ _ (tail-whole (c .before .before .before .before .before .before .before .before .before .before .before .before .before .before .before .before .before .before .args .s .now) (c .before .before .before .before .before .before .before .before .before .before .before .before .before .before .before .open-line .result .at) (c .before .before .before .before .before .before .before .before .before .before .before .before .before .before .before .open-line .ensures .high)) (c .before .before .before .before .before .before .before .before .before .before .before .before .before .before .before .before .before .before .pre .4) (c .before .before .before .before .before .before .before .before .before .before .before .before .before .before .before .open-line .ensures) (c .before .before .before .before .before .before .before .before .before .before .before .split-line .ensures) (c .before .before .before .before .before .before .before .before .before .before .before .before .before .before .before .before .before .before .pre .3) _ (c .before .before .before .line-kind .ensures) _ (c .before .set .given .1), c .before .before .before .before .before .before .before .before .before .before .before .split-line .ensures .placed .size)
 
 same-length-5 : tie.Need-same-length-5
 same-length-5 c = search needs
@@ -131,8 +131,8 @@ check-words-spec =
     slice-read-end
     add-end
     add-group-requires
-    add-t32
-    enum-known-heading
+    add-t33
+    enum-known-set
     enum-told-3
     rule-fault-requires
     same-length

@@ -1,108 +1,13 @@
-use Prim.Native.Nat.{_-_}
-use native.Mathlib.Omega.{arith}
-use lib.ListN.{length}
-use mathlib.Core.Path.{sym, _∙_}
-use Rattle.text.proofs.Readers.{FastRun, fast-start, fast-more, fast-two, fast-three, fast-four, fast-stop}
+use borrow.Author.Needs.{needs}
 use Rattle.text.proofs.reader.plain_end.Statement.{statement}
 use Rattle.text.proofs.reader.plain_end.Tie as tie
+use Rattle.text.proofs.Readers.{run-plain}
 
-abbrev Inv-loop : tie.InvT-loop
-Inv-loop s t fence from i₀ i = FastRun s fence from i
+run-end-requires : tie.Need-run-end-requires
+run-end-requires c κs = search needs
 
-abbrev μ-loop : tie.MeasureT-loop
-μ-loop s t fence from i₀ i = length s - i
-
-loop-holds : tie.Need-loop-holds Inv-loop μ-loop
-loop-holds c = fast-start _ _ _ (c .before .pre .1 .1) (c .before .pre .0)
-
-shared-slice-read-stops : tie.Need-shared-slice-read-stops Inv-loop μ-loop
-shared-slice-read-stops c = omega (arith, (c .before .loop .inv) .inside, c .before .before .before .pre .1 .1 .high)
-
-stops-requires : tie.Need-stops-requires Inv-loop μ-loop
-stops-requires c κs = c .before .before .before .pre .1 .0
-
-returns : tie.Need-returns Inv-loop μ-loop
-returns c = fast-stop _ _ _ _ (c .before .before .before .loop .inv) (sym (c .before .stops .ensures) ∙ c .if1 .taken)
-
-add-stops : tie.Need-add-stops Inv-loop μ-loop
-add-stops c = omega (arith, (fast-more _ _ _ _ (c .before .before .before .before .before .pre .1 .1) (c .before .before .before .loop .inv) (sym (c .before .stops .ensures) ∙ c .if1 .left)) .inside, c .before .before .before .before .before .pre .1 .1 .high)
-
-shared-slice-read-stops-2 : tie.Need-shared-slice-read-stops-2 Inv-loop μ-loop
-shared-slice-read-stops-2 c = omega (arith, (fast-more _ _ _ _ (c .before .before .before .before .before .before .pre .1 .1) (c .before .before .before .before .loop .inv) (sym (c .before .before .stops .ensures) ∙ c .before .if1 .left)) .inside, c .before .before .before .before .before .before .pre .1 .1 .high)
-
-stops-requires-2 : tie.Need-stops-requires-2 Inv-loop μ-loop
-stops-requires-2 c κs = c .before .before .before .before .before .before .pre .1 .0
-
-add-result : tie.Need-add-result Inv-loop μ-loop
-add-result c = omega (arith, (fast-more _ _ _ _ (c .before .before .before .before .before .before .before .before .pre .1 .1) (c .before .before .before .before .before .before .loop .inv) (sym (c .before .before .before .before .stops .ensures) ∙ c .before .before .before .if1 .left)) .inside, c .before .before .before .before .before .before .before .before .pre .1 .1 .high)
-
-returns-2 : tie.Need-returns-2 Inv-loop μ-loop
-returns-2 c = fast-stop _ _ _ _ (fast-more _ _ _ _ (c .before .before .before .before .before .before .before .before .pre .1 .1) (c .before .before .before .before .before .before .loop .inv) (sym (c .before .before .before .before .stops .ensures) ∙ c .before .before .before .if1 .left)) (sym (c .before .stops2 .ensures) ∙ c .if2 .taken)
-
-add-stops-2 : tie.Need-add-stops-2 Inv-loop μ-loop
-add-stops-2 c = omega (arith, (fast-two _ _ _ _ (c .before .before .before .before .before .before .before .before .pre .1 .1) (c .before .before .before .before .before .before .loop .inv) (sym (c .before .before .before .before .stops .ensures) ∙ c .before .before .before .if1 .left) (sym (c .before .stops2 .ensures) ∙ c .if2 .left)) .inside, c .before .before .before .before .before .before .before .before .pre .1 .1 .high)
-
-shared-slice-read-stops-3 : tie.Need-shared-slice-read-stops-3 Inv-loop μ-loop
-shared-slice-read-stops-3 c = omega (arith, (fast-two _ _ _ _ (c .before .before .before .before .before .before .before .before .before .pre .1 .1) (c .before .before .before .before .before .before .before .loop .inv) (sym (c .before .before .before .before .before .stops .ensures) ∙ c .before .before .before .before .if1 .left) (sym (c .before .before .stops2 .ensures) ∙ c .before .if2 .left)) .inside, c .before .before .before .before .before .before .before .before .before .pre .1 .1 .high)
-
-stops-requires-3 : tie.Need-stops-requires-3 Inv-loop μ-loop
-stops-requires-3 c κs = c .before .before .before .before .before .before .before .before .before .pre .1 .0
-
-add-result-2 : tie.Need-add-result-2 Inv-loop μ-loop
-add-result-2 c = omega (arith, (fast-two _ _ _ _ (c .before .before .before .before .before .before .before .before .before .before .before .pre .1 .1) (c .before .before .before .before .before .before .before .before .before .loop .inv) (sym (c .before .before .before .before .before .before .before .stops .ensures) ∙ c .before .before .before .before .before .before .if1 .left) (sym (c .before .before .before .before .stops2 .ensures) ∙ c .before .before .before .if2 .left)) .inside, c .before .before .before .before .before .before .before .before .before .before .before .pre .1 .1 .high)
-
-returns-3 : tie.Need-returns-3 Inv-loop μ-loop
-returns-3 c = fast-stop _ _ _ _ (fast-two _ _ _ _ (c .before .before .before .before .before .before .before .before .before .before .before .pre .1 .1) (c .before .before .before .before .before .before .before .before .before .loop .inv) (sym (c .before .before .before .before .before .before .before .stops .ensures) ∙ c .before .before .before .before .before .before .if1 .left) (sym (c .before .before .before .before .stops2 .ensures) ∙ c .before .before .before .if2 .left)) (sym (c .before .stops3 .ensures) ∙ c .if3 .taken)
-
-add-stops-3 : tie.Need-add-stops-3 Inv-loop μ-loop
-add-stops-3 c = omega (arith, (fast-three _ _ _ _ (c .before .before .before .before .before .before .before .before .before .before .before .pre .1 .1) (c .before .before .before .before .before .before .before .before .before .loop .inv) (sym (c .before .before .before .before .before .before .before .stops .ensures) ∙ c .before .before .before .before .before .before .if1 .left) (sym (c .before .before .before .before .stops2 .ensures) ∙ c .before .before .before .if2 .left) (sym (c .before .stops3 .ensures) ∙ c .if3 .left)) .inside, c .before .before .before .before .before .before .before .before .before .before .before .pre .1 .1 .high)
-
-shared-slice-read-stops-4 : tie.Need-shared-slice-read-stops-4 Inv-loop μ-loop
-shared-slice-read-stops-4 c = omega (arith, (fast-three _ _ _ _ (c .before .before .before .before .before .before .before .before .before .before .before .before .pre .1 .1) (c .before .before .before .before .before .before .before .before .before .before .loop .inv) (sym (c .before .before .before .before .before .before .before .before .stops .ensures) ∙ c .before .before .before .before .before .before .before .if1 .left) (sym (c .before .before .before .before .before .stops2 .ensures) ∙ c .before .before .before .before .if2 .left) (sym (c .before .before .stops3 .ensures) ∙ c .before .if3 .left)) .inside, c .before .before .before .before .before .before .before .before .before .before .before .before .pre .1 .1 .high)
-
-stops-requires-4 : tie.Need-stops-requires-4 Inv-loop μ-loop
-stops-requires-4 c κs = c .before .before .before .before .before .before .before .before .before .before .before .before .pre .1 .0
-
-add-result-3 : tie.Need-add-result-3 Inv-loop μ-loop
-add-result-3 c = omega (arith, (fast-three _ _ _ _ (c .before .before .before .before .before .before .before .before .before .before .before .before .before .before .pre .1 .1) (c .before .before .before .before .before .before .before .before .before .before .before .before .loop .inv) (sym (c .before .before .before .before .before .before .before .before .before .before .stops .ensures) ∙ c .before .before .before .before .before .before .before .before .before .if1 .left) (sym (c .before .before .before .before .before .before .before .stops2 .ensures) ∙ c .before .before .before .before .before .before .if2 .left) (sym (c .before .before .before .before .stops3 .ensures) ∙ c .before .before .before .if3 .left)) .inside, c .before .before .before .before .before .before .before .before .before .before .before .before .before .before .pre .1 .1 .high)
-
-returns-4 : tie.Need-returns-4 Inv-loop μ-loop
-returns-4 c = fast-stop _ _ _ _ (fast-three _ _ _ _ (c .before .before .before .before .before .before .before .before .before .before .before .before .before .before .pre .1 .1) (c .before .before .before .before .before .before .before .before .before .before .before .before .loop .inv) (sym (c .before .before .before .before .before .before .before .before .before .before .stops .ensures) ∙ c .before .before .before .before .before .before .before .before .before .if1 .left) (sym (c .before .before .before .before .before .before .before .stops2 .ensures) ∙ c .before .before .before .before .before .before .if2 .left) (sym (c .before .before .before .before .stops3 .ensures) ∙ c .before .before .before .if3 .left)) (sym (c .before .stops4 .ensures) ∙ c .if4 .taken)
-
-add-i : tie.Need-add-i Inv-loop μ-loop
-add-i c = omega (arith, (fast-four _ _ _ _ (c .before .before .before .before .before .before .before .before .before .before .before .before .before .before .pre .1 .1) (c .before .before .before .before .before .before .before .before .before .before .before .before .loop .inv) (sym (c .before .before .before .before .before .before .before .before .before .before .stops .ensures) ∙ c .before .before .before .before .before .before .before .before .before .if1 .left) (sym (c .before .before .before .before .before .before .before .stops2 .ensures) ∙ c .before .before .before .before .before .before .if2 .left) (sym (c .before .before .before .before .stops3 .ensures) ∙ c .before .before .before .if3 .left) (sym (c .before .stops4 .ensures) ∙ c .if4 .left)) .inside, c .before .before .before .before .before .before .before .before .before .before .before .before .before .before .pre .1 .1 .high)
-
-loop-less : tie.Need-loop-less Inv-loop μ-loop
-loop-less c = omega (arith, (fast-four _ _ _ _ (c .before .before .before .before .before .before .before .before .before .before .before .before .before .before .pre .1 .1) (c .before .before .before .before .before .before .before .before .before .before .before .before .loop .inv) (sym (c .before .before .before .before .before .before .before .before .before .before .stops .ensures) ∙ c .before .before .before .before .before .before .before .before .before .if1 .left) (sym (c .before .before .before .before .before .before .before .stops2 .ensures) ∙ c .before .before .before .before .before .before .if2 .left) (sym (c .before .before .before .before .stops3 .ensures) ∙ c .before .before .before .if3 .left) (sym (c .before .stops4 .ensures) ∙ c .if4 .left)) .inside, c .before .before .before .before .before .before .before .before .before .before .before .before .before .before .pre .1 .1 .high)
-
-loop-again : tie.Need-loop-again Inv-loop μ-loop
-loop-again c = fast-four _ _ _ _ (c .before .before .before .before .before .before .before .before .before .before .before .before .before .before .pre .1 .1) (c .before .before .before .before .before .before .before .before .before .before .before .before .loop .inv) (sym (c .before .before .before .before .before .before .before .before .before .before .stops .ensures) ∙ c .before .before .before .before .before .before .before .before .before .if1 .left) (sym (c .before .before .before .before .before .before .before .stops2 .ensures) ∙ c .before .before .before .before .before .before .if2 .left) (sym (c .before .before .before .before .stops3 .ensures) ∙ c .before .before .before .if3 .left) (sym (c .before .stops4 .ensures) ∙ c .if4 .left)
+returns : tie.Need-returns
+returns c = (run-plain _ _ _ (c .run-end .ensures .0), c .run-end .ensures .1)
 
 pub plain-end-spec : {M : Type 1} → statement M
-plain-end-spec =
-    tie.close
-    (tie.spec
-    Inv-loop
-    μ-loop
-    loop-holds
-    shared-slice-read-stops
-    stops-requires
-    returns
-    add-stops
-    shared-slice-read-stops-2
-    stops-requires-2
-    add-result
-    returns-2
-    add-stops-2
-    shared-slice-read-stops-3
-    stops-requires-3
-    add-result-2
-    returns-3
-    add-stops-3
-    shared-slice-read-stops-4
-    stops-requires-4
-    add-result-3
-    returns-4
-    add-i
-    loop-less
-    loop-again)
+plain-end-spec = tie.close (tie.spec run-end-requires returns)
