@@ -5,6 +5,7 @@ ghost use Prim.Native.Nat.{_*_, _+_, _-_, _≤_, _<_};
 ghost use lib.ListN.{length, drop, take};
 ghost use Rattle.output.specs.Store.{farthest};
 ghost use Rattle.profile.specs.Profile.{fields, textsOf, profileOf};
+ghost use Rattle.profile.specs.Bounds.{Bounds};
 ghost use Rattle.rules.specs.Splitting.{wordsOf, Placed};
 ghost use Rattle.values.specs.Filling.{Short, mostPerByte};
 ghost use Rattle.values.specs.Spread.{expanded};
@@ -21,6 +22,7 @@ fn fire_value(
     model: &[u8],
     layouts: &[u8],
     variants: &[u8],
+    bounds: &[usize; 16],
     n: usize,
     k: usize,
     scratch: &mut [u8],
@@ -28,11 +30,12 @@ fn fire_value(
     q: Cursors,
 ) -> Cursors
     requires { ⌜ (n ≡ length (fields (now layouts))) × (1 ≤ n) × (n < 100) × (k < 100) × Short (now model) (now layouts) (now variants)
-        × (mostPerByte * length (now x) ≤ length (now scratch)) × (length (now scratch) ≤ farthest) × (length (now buf) ≤ farthest) × Low (q .at) ⌝ }
+        × (mostPerByte * length (now x) ≤ length (now scratch)) × (length (now scratch) ≤ farthest) × (length (now buf) ≤ farthest) × Low (q .at)
+        × Bounds (now layouts) (now variants) (now bounds) ⌝ }
     ensures { λ r. ⌜ FiredOne (now (buf .entry)) (now (buf .exit)) q r component
         (expanded (profileOf (textsOf (now (model .entry)) (now (layouts .entry)) (now (variants .entry)) [])) k (now (x .entry))) ⌝ }
 {
-    let length = fill_value(x, model, layouts, variants, n, k, scratch);
+    let length = fill_value(x, model, layouts, variants, bounds, n, k, scratch);
     fire(&scratch[0..length], n, component, buf, q)
 }
 
@@ -46,6 +49,7 @@ pub fn fire_rule(
     model: &[u8],
     layouts: &[u8],
     variants: &[u8],
+    bounds: &[usize; 16],
     n: usize,
     k: usize,
     scratch: &mut [u8],
@@ -55,7 +59,8 @@ pub fn fire_rule(
     requires { ⌜ Placed (now w) (now places) (wordsOf (now w)) (length (wordsOf (now w))) × (count ≡ length (wordsOf (now w))) × (from ≤ count) × (count ≤ 10)
         × (count ≤ from + 5) × ShortWords (wordsOf (now w))
         × (n ≡ length (fields (now layouts))) × (1 ≤ n) × (n < 100) × (k < 100) × Short (now model) (now layouts) (now variants)
-        × (8192 ≤ length (now scratch)) × (length (now scratch) ≤ farthest) × (length (now buf) ≤ farthest) × Low (q .at) ⌝ }
+        × (8192 ≤ length (now scratch)) × (length (now scratch) ≤ farthest) × (length (now buf) ≤ farthest) × Low (q .at)
+        × Bounds (now layouts) (now variants) (now bounds) ⌝ }
     ensures { λ r. ⌜ FiredRule (profileOf (textsOf (now (model .entry)) (now (layouts .entry)) (now (variants .entry)) []))
         (now (buf .entry)) (now (buf .exit)) q r k (take (count - from) components) (drop from (wordsOf (now (w .entry)))) ⌝ }
 {
@@ -69,6 +74,7 @@ pub fn fire_rule(
             model,
             layouts,
             variants,
+            bounds,
             n,
             k,
             scratch,

@@ -1,11 +1,11 @@
 // The groups so far, and what they hold of the profile: ten answers for each, in a table.
 ghost use mathlib.Core.Path.{_≡_};
 ghost use mathlib.Core.List.{[], _∷_};
-ghost use Prim.Native.Nat.{_<_, _≤_};
+ghost use Prim.Native.Nat.{_<_, _≤_, _+_};
 ghost use lib.ListN.{length};
 ghost use Rattle.text.specs.Bytes.{same as sameText};
 ghost use Rattle.text.specs.Limits.{mostOptions, mostGroups};
-ghost use Rattle.text.specs.Reading.{left, Table, Fenced, Within};
+ghost use Rattle.text.specs.Reading.{left, Table, Fenced, Within, Passed};
 ghost use Rattle.profile.specs.Profile.{textsOf, profileOf, optionsOf};
 ghost use Rattle.profile.specs.Listing.{Listed};
 ghost use Rattle.rules.specs.Checking.{Named};
@@ -13,6 +13,7 @@ ghost use Rattle.matching.specs.Groups.{Rowed, Noted};
 ghost use Rattle.matching.specs.Rows.{Told, ofGroup, MarkedFor, QuestionMarked, Cleared, RowFilled};
 use profile::fields::field;
 use profile::table::has_option;
+use text::LineStart;
 use text::Next;
 use text::compare::same;
 use text::reader::word_at;
@@ -88,7 +89,7 @@ fn mark_word(
     }
 }
 
-// The words from `at` on.
+// The words from `at` on: where the line after them starts.
 fn mark_words(
     s: &[u8],
     t: &[u8; 512],
@@ -109,14 +110,15 @@ fn mark_words(
     count: usize,
     rows: &mut [bool; 640],
     g: usize,
-)
+) -> LineStart
     requires { ⌜ Within (now s) (now t) fence at line
         × Listed (now options) (now table) count
         × (length (optionsOf (now options)) ≤ mostOptions)
         × (g < 64)
         × (length (now rows) ≡ 640) ⌝ }
-    ensures { λ _. ⌜ MarkedFor (now (model .entry) ∷ now (l1 .entry) ∷ now (l2 .entry) ∷ now (l3 .entry) ∷ now (l4 .entry) ∷ now (v1 .entry) ∷ now (v2 .entry) ∷ now (v3 .entry) ∷ now (v4 .entry) ∷ [])
-        (now (options .entry)) (left (now (s .entry)) at) (now (rows .entry)) (now (rows .exit)) g ⌝ }
+    ensures { λ r. ⌜ MarkedFor (now (model .entry) ∷ now (l1 .entry) ∷ now (l2 .entry) ∷ now (l3 .entry) ∷ now (l4 .entry) ∷ now (v1 .entry) ∷ now (v2 .entry) ∷ now (v3 .entry) ∷ now (v4 .entry) ∷ [])
+        (now (options .entry)) (left (now (s .entry)) at) (now (rows .entry)) (now (rows .exit)) g
+        × Passed (now (s .entry)) at line (r .at) (r .line) ⌝ }
 {
     let mut i = at;
     let mut l = line;
@@ -148,8 +150,8 @@ fn mark_words(
                 i = end;
                 l = line;
             }
-            Next::Stop { next: _, line: _ } => {
-                return;
+            Next::Stop { next, line } => {
+                return LineStart { at: next, line };
             }
         }
     }
@@ -166,12 +168,14 @@ fn clear_row(rows: &mut [bool; 640], g: usize)
     }
 }
 
-// Fills row g for the words behind a group's name, which ends at `at`. The first of them is `=`.
+// Fills row g for the words behind a group's name, which ends at `at`, in the physical line `line`. The first of them is `=`. Where the line after
+// them starts.
 pub fn fill_row(
     s: &[u8],
     t: &[u8; 512],
     fence: usize,
     at: usize,
+    line: usize,
     model: &[u8],
     layouts: &[u8],
     variants: &[u8],
@@ -180,17 +184,18 @@ pub fn fill_row(
     count: usize,
     rows: &mut [bool; 640],
     g: usize,
-)
+) -> LineStart
     requires { ⌜ Table (now t)
         × Fenced (now s) fence
         × (at ≤ length (now s))
+        × (line ≤ at + 1)
         × Listed (now options) (now table) count
         × (length (optionsOf (now options)) ≤ mostOptions)
         × (g < 64)
         × (length (now rows) ≡ 640) ⌝ }
-    ensures { λ _. ⌜ RowFilled (now (s .entry)) at
+    ensures { λ r. ⌜ RowFilled (now (s .entry)) at
         (profileOf (textsOf (now (model .entry)) (now (layouts .entry)) (now (variants .entry)) (now (options .entry))))
-        (now (rows .entry)) (now (rows .exit)) g ⌝ }
+        (now (rows .entry)) (now (rows .exit)) g × Passed (now (s .entry)) at line (r .at) (r .line) ⌝ }
 {
     clear_row(rows, g);
     let l1 = field(layouts, 0);
@@ -201,7 +206,7 @@ pub fn fill_row(
     let v2 = field(variants, 1);
     let v3 = field(variants, 2);
     let v4 = field(variants, 3);
-    match word_at(s, t, fence, at, 0) {
+    match word_at(s, t, fence, at, line) {
         Next::Found {
             start: _,
             end,
@@ -228,17 +233,18 @@ pub fn fill_row(
             rows,
             g,
         ),
-        Next::Stop { next: _, line: _ } => {}
+        Next::Stop { next, line } => LineStart { at: next, line },
     }
 }
 
-// One group more: its name's place is kept, and its row filled.
+// One group more: its name's place is kept, and its row filled. Where the line after it starts; `line` is the physical line that the name stands in.
 pub fn note_group(
     s: &[u8],
     t: &[u8; 512],
     fence: usize,
     start: usize,
     end: usize,
+    line: usize,
     names: &mut [usize; 128],
     model: &[u8],
     layouts: &[u8],
@@ -248,18 +254,20 @@ pub fn note_group(
     count: usize,
     rows: &mut [bool; 640],
     g: usize,
-)
+) -> LineStart
     requires { ⌜ Table (now t)
         × Fenced (now s) fence
         × (start ≤ end)
         × (end ≤ length (now s))
+        × (line ≤ end + 1)
         × Named (now s) (now names) g
         × Listed (now options) (now table) count
         × (length (optionsOf (now options)) ≤ mostOptions)
         × (g < mostGroups)
         × Rowed (profileOf (textsOf (now model) (now layouts) (now variants) (now options))) (now s) (now names) (now rows) g ⌝ }
-    ensures { λ _. ⌜ Noted (profileOf (textsOf (now (model .entry)) (now (layouts .entry)) (now (variants .entry)) (now (options .entry))))
-        (now (s .entry)) (now (names .entry)) (now (names .exit)) (now (rows .exit)) g start end ⌝ }
+    ensures { λ r. ⌜ Noted (profileOf (textsOf (now (model .entry)) (now (layouts .entry)) (now (variants .entry)) (now (options .entry))))
+        (now (s .entry)) (now (names .entry)) (now (names .exit)) (now (rows .exit)) g start end
+        × Passed (now (s .entry)) end line (r .at) (r .line) ⌝ }
 {
     names[2 * g] = start;
     names[2 * g + 1] = end;
@@ -268,6 +276,7 @@ pub fn note_group(
         t,
         fence,
         end,
+        line,
         model,
         layouts,
         variants,
@@ -276,5 +285,5 @@ pub fn note_group(
         count,
         rows,
         g,
-    );
+    )
 }

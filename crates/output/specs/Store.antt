@@ -9,10 +9,10 @@ unfoldable pub stored : Text → ℕ → Text → Text
 stored d at [] = d
 stored d at (b ∷ t) = stored (set d at b) (at + 1) t
 
--- Positions end at 2^21, so that no sum can wrap. That is far enough behind the longest total, 2^20, that a text that starts within the first half and
--- reaches the end is longer than any total may be.
+-- Positions end, so that no sum can wrap: one behind the longest total, 1,048,576, that begins at the end of a stage of 10,240 bytes. A text that starts within
+-- the stage and reaches the last position is longer than any total may be.
 abbrev pub farthest : ℕ
-farthest = 2097152
+farthest = 1058817
 
 unfoldable pub past : ℕ → ℕ → ℕ
 past at n = min (at + n) farthest

@@ -11,18 +11,18 @@ pub fn wide(x: u32) -> usize
     x as usize
 }
 
-// The position n bytes on; from 2,097,152 on they are all one.
+// The position n bytes on; from 1,058,817 on they are all one.
 pub fn past(at: u32, n: usize) -> u32
     ensures { λ r. ⌜ r ≡ pastOf at n ⌝ }
 {
-    if 2097152 <= n {
-        return 2097152;
+    if 1058817 <= n {
+        return 1058817;
     }
-    if 2097152 <= at {
-        return 2097152;
+    if 1058817 <= at {
+        return 1058817;
     }
     let m = at + n as u32;
-    if m < 2097152 { m } else { 2097152 }
+    if m < 1058817 { m } else { 1058817 }
 }
 
 // How many of n bytes from a position on the room takes.

@@ -12,3 +12,4 @@ pub mod Resolutions
 pub mod RuleLines
 pub mod HeadingLines
 pub mod HeadsFound
+pub mod GroupLines

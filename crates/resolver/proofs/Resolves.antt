@@ -10,7 +10,7 @@ use native.Mathlib.Omega.{arith}
 use borrow.Author.Tests.{leb-true}
 use borrow.Rule.Slice.PartMut.{midOf, postOf}
 use Rattle.text.specs.declared.Refusal.{Refusal}
-use Rattle.text.specs.Limits.{longestText, longestFile, longestTotal}
+use Rattle.text.specs.Limits.{longestText, longestFile, longestTotal, mostLayouts}
 use Rattle.text.specs.Bytes.{Text, allOf, anyOf}
 use Rattle.text.specs.Refusals.{refusedIf, firstRefusal, isNumber, hasNumber}
 use Rattle.text.proofs.Lists.{and-both, nil-left, nil-right}
@@ -78,6 +78,11 @@ some-layouts l n e = rw e (counted.some-layout (textsOf [] l [] []))
 pub few-layouts : (m l v o : Text) (n : ℕ) → profileRefusals (textsOf m l v o) ≡ [] → n ≡ length (fields l) → n ≤ 4
 unfolding layoutCount profileOf
 few-layouts m l v o n h e = rw e (counted.few-layouts (textsOf m l v o) h)
+
+pub few-fields : (m l v o : Text) → profileRefusals (textsOf m l v o) ≡ [] → (length (fields l) ≤ mostLayouts) × (length (fields v) ≤ mostLayouts)
+unfolding layoutCount profileOf
+few-fields m l v o h =
+    (counted.few-layouts (textsOf m l v o) h, omega (arith, counted.few-layouts (textsOf m l v o) h, counted.few-variants (textsOf m l v o) h))
 
 -- nothing is refused where the first refusal has number 0
 

@@ -4,21 +4,19 @@ use native.Mathlib.Omega.{arith}
 use mathlib.Core.Path.{_≡_, refl, sym, ap, _∙_}
 use mathlib.Core.List.{List, [], _∷_, _++_, map}
 use mathlib.Core.Bool.{Bool, true, false, _||_, cond}
-use lib.ListN.{length, getD, drop}
-use lib.Seq.{drop-drop}
+use lib.ListN.{length, drop}
 use lib.Dec.{leb}
 use borrow.Author.Tests.{eqb-true, eqb-false, leb-false}
 use Rattle.text.specs.Limits.{mostGroups}
-use Rattle.text.specs.Bytes.{Text, Words, same, anyOf, rest, part, concatMap}
+use Rattle.text.specs.Bytes.{Text, Words, same, anyOf, concatMap}
 use Rattle.text.specs.Lines.{Line}
 use Rattle.text.specs.Refusals.{refusedAs}
-use Rattle.text.specs.Reading.{left, follow, Opens}
+use Rattle.text.specs.Reading.{follow, Opens}
 use Rattle.text.proofs.Lists.{nil-left}
 use Rattle.profile.specs.Profile.{Profile}
 use Rattle.rules.specs.declared.Present.{Present}
 use Rattle.rules.specs.declared.Progress.{Progress}
 use Rattle.rules.specs.declared.Split.{Split}
-use Rattle.rules.specs.declared.LineKind.{LineKind}
 use Rattle.rules.specs.declared.LineKind.the-variants as kind
 use Rattle.rules.specs.Entries.{Entry, group, set, before, after, entryOf}
 use Rattle.rules.specs.declared.SetHeading.{SetHeading}
@@ -27,15 +25,14 @@ use Rattle.rules.specs.Sections.{applies}
 use Rattle.rules.specs.Sets.{Holds, IsSet}
 use Rattle.rules.specs.Faults.{Groups}
 use Rattle.rules.specs.Splitting.{wordsOf, IsSplit}
-use Rattle.rules.specs.Checking.{lineOf, noHeading, formOf, lineFault, presentOf, checkFrom, IsKind, namesAt, Adds, Ready, leftFaults, Onward}
+use Rattle.rules.specs.Checking.{lineOf, formOf, lineFault, presentOf, checkFrom, IsKind, namesAt, Ready, leftFaults, Onward}
 use Rattle.rules.proofs.Fresh.{as-none}
-use Rattle.rules.proofs.CheckSteps.{check-cons, entry-any, left-is, line-read, line-high, line-few, step-set, step-group, group-is, group-word, name-text}
-use Rattle.rules.proofs.GroupNames.{names-length}
+use Rattle.rules.proofs.CheckSteps.{check-cons, entry-any, left-is, line-read, line-high, line-few, step-set}
 use Rattle.firing.specs.declared.Cursors.{Cursors}
 use Rattle.resolver.specs.declared.Walk.{Walk}
 use Rattle.answers.specs.Firings.{Firing, headFires}
 use Rattle.firing.specs.Writing.{Low, runBuf, runCur}
-use Rattle.matching.specs.Groups.{groupsAt, Rowed, Noted}
+use Rattle.matching.specs.Groups.{groupsAt, Rowed}
 use Rattle.matching.specs.Held.{headingBy, SetSized}
 use Rattle.resolver.specs.Running.{rulesFrom, firingsFrom, leftFirings, FiredHeading, WalkedLine}
 use Rattle.matching.specs.Ranges.{FromOne}
@@ -47,24 +44,19 @@ use Rattle.resolver.proofs.SetLines.{Good, set-good, set-short, set-col
 use Rattle.resolver.proofs.HeadingLines.{IsSetOf, HeadingIs, heading-is}
 use Rattle.resolver.proofs.LineFirings.{nextFirings, firings-line}
 
-fires-is : (p : Profile) (s : Text) (t : List ℕ) (w : Progress) → leftFirings p s t w ≡ firingsFrom (groupsAt s t (w .groups)) p (follow s (w .at) (w .line))
+pub fires-is : (p : Profile) (s : Text) (t : List ℕ) (w : Progress) → leftFirings p s t w ≡ firingsFrom (groupsAt s t (w .groups)) p (follow s (w .at) (w .line))
 unfolding leftFirings
 fires-is p s t w = refl
 
-next-group : (gs : Groups) (p : Profile) (g : Text) (ms : Words) (ls : List Line) → nextFirings gs p (group g ms) ls ≡ firingsFrom (record { name = g; members = ms } ∷ gs) p ls
+pub next-group : (gs : Groups) (p : Profile) (g : Text) (ms : Words) (ls : List Line) → nextFirings gs p (group g ms) ls ≡ firingsFrom (record { name = g; members = ms } ∷ gs) p ls
 unfolding nextFirings
 next-group gs p g ms ls = refl
 
-fault-group : (ns : List Text) (p : Present) (g : Text) (ms : Words) → lineFault ns p (group g ms) ≡ cond (anyOf (same g) ns || leb mostGroups (length ns)) 10 0
+pub fault-group : (ns : List Text) (p : Present) (g : Text) (ms : Words) → lineFault ns p (group g ms) ≡ cond (anyOf (same g) ns || leb mostGroups (length ns)) 10 0
 unfolding lineFault
 fault-group ns p g ms = refl
 
--- words behind a place of a part of the file
-left-part : (s : Text) (from y : ℕ) → left s (from + y) ≡ left (drop from s) y
-unfolding left
-left-part s from y = rw (drop-drop y from s)
-
-room-left : (b : Bool) (n : ℕ) (ns : List Text) → length ns ≡ n → _≡_ {A = ℕ} (cond (b || leb mostGroups (length ns)) 10 0) 0 → n < mostGroups
+pub room-left : (b : Bool) (n : ℕ) (ns : List Text) → length ns ≡ n → _≡_ {A = ℕ} (cond (b || leb mostGroups (length ns)) 10 0) 0 → n < mostGroups
 room-left true n ns l e = absurd (eqb-false 10 0 refl e)
 room-left false n ns l e = go (leb mostGroups (length ns)) refl e
   where
@@ -114,51 +106,6 @@ module _ (pr : Profile) (s t u : Text) (p : Progress) (q : Cursors) (d : Text) (
       let f : lineFault (namesAt s t (p .groups)) (p .present) (entryOf (lineOf 0 true (wordsOf (drop from s)))) ≡ 0 =
       rw (entry-any (p .line) h (wordsOf (drop from s)), e) at fault-none in
       rw (xe, e) (heading-is (namesAt s t (p .groups)) (p .present) 0 (wordsOf (drop from s)) f)
-
-  module _ (k : LineKind) (i₀ : IsKind (wordsOf x) (entryOf (lineOf 0 h (wordsOf x))) k) where
-    i : IsKind (wordsOf (drop from s)) (entryOf (lineOf 0 h (wordsOf (drop from s)))) k
-    i = rw xe at i₀
-
-    module _ (e : k ≡ kind.Group) where
-      entry : entryOf (lineOf 0 h (wordsOf (drop from s))) ≡ group (rest (getD (wordsOf (drop from s)) 0 [])) (drop 2 (wordsOf (drop from s)))
-      entry = group-is s t u p h from m x r xe lt o v w k i₀ e .0
-
-      fault-of : _≡_ {A = ℕ} (cond (anyOf (same (rest (getD (wordsOf (drop from s)) 0 []))) (namesAt s t (p .groups)) || leb mostGroups (length (namesAt s t (p .groups)))) 10 0) 0
-      fault-of =
-          sym (fault-group (namesAt s t (p .groups)) (p .present) (rest (getD (wordsOf (drop from s)) 0 [])) (drop 2 (wordsOf (drop from s)))) ∙
-          (rw (entry-any (p .line) h (wordsOf (drop from s)), entry) at fault-none)
-
-      pub group-room : p .groups < mostGroups
-      group-room = room-left (anyOf (same (rest (getD (wordsOf (drop from s)) 0 []))) (namesAt s t (p .groups))) (p .groups) (namesAt s t (p .groups)) (names-length s t (p .groups)) fault-of
-
-      name-is : rest (getD (wordsOf (drop from s)) 0 []) ≡ part s (from + getD u 0 0 + 1) (from + getD u 1 0)
-      name-is = name-text s from _ _ _ (o .high) (group-word s t u p h from m x r xe lt o v w k i₀ e) (group-is s t u p h from m x r xe lt o v w k i₀ e .2)
-
-      members-are : drop 1 (left s (from + getD u 1 0)) ≡ drop 2 (wordsOf (drop from s))
-      members-are =
-          let y : IsSplit h (drop from s) u r = rw xe at v in
-          let b : left (drop from s) (getD u 1 0) ≡ drop 1 (wordsOf (drop from s)) =
-          y .placed .behind 0 (omega arith) (omega (arith, group-is s t u p h from m x r xe lt o v w k i₀ e .1)) in
-          ap (drop 1) (left-part s from (getD u 1 0) ∙ b) ∙ drop-drop 1 1 (wordsOf (drop from s))
-
-      pub walk-group : (t′ : Text) (rows′ : List Bool) → Noted pr s t t′ rows′ (p .groups) (from + getD u 0 0 + 1) (from + getD u 1 0) →
-          WalkedLine pr s t t′ rows′ d d (record { progress = p; cursors = q })
-          (record { progress = record { at = from + r .next; line = m + r .line; groups = p .groups + 1; present = noHeading; fault = 0; heading = h }; cursors = q })
-      walk-group t′ rows′ n =
-          let a : Adds s t t′ (p .groups) (from + getD u 0 0 + 1) (from + getD u 1 0) 0 =
-          record { size = n .named .size; fault = sym (rw name-is at fault-of); named = λ z. n .named; names = λ z. n .names } in
-          let f : leftFirings pr s t p ≡ leftFirings pr s t′ (record { at = from + r .next; line = m + r .line; groups = p .groups + 1; present = noHeading; fault = 0; heading = h }) =
-          fires-line _ entry ∙
-          (next-group (groupsAt s t (p .groups)) pr _ _ lines-on ∙
-          (rw (name-is, ← members-are, ← n .groups) (sym (fires-is pr s t′ _)))) in
-          record {
-            onward = step-group s t u p h from m x r xe lt o v w k i₀ e t′ 0 a .right refl;
-            rowed = n .rowed;
-            low = lo;
-            long = refl;
-            bytes = ap (runBuf d q) f;
-            places = ap (runCur q) f;
-          }
 
   pub set-few : IsSetOf (entryOf (lineOf 0 h (wordsOf x))) → length (wordsOf x) ≤ 10
   set-few v = set-short 0 h (wordsOf x) (v .heading) (v .is)

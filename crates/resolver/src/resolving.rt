@@ -22,6 +22,7 @@ use firing::stage::in_regions;
 use firing::stage::lengths_between;
 use firing::writing::places;
 use profile::fields::field_count;
+use profile::fields::list_fields;
 use profile::table::list_options;
 use rules::check::check_file;
 use text::Refusal;
@@ -51,7 +52,7 @@ fn no_room(room: usize, total: u32) -> bool
 // All that an accepted file fires for an accepted profile, written from ten positions on: the positions after it.
 fn fire_file(
     s: &[u8],
-    heads: &[usize; 512],
+    heads: &[usize; 256],
     count: usize,
     model: &[u8],
     layouts: &[u8],
@@ -69,6 +70,8 @@ fn fire_file(
     let mut table: [usize; 128] = [0; 128];
     let listed = list_options(options, &mut table);
     let n = field_count(layouts);
+    let mut bounds: [usize; 16] = [0; 16];
+    list_fields(layouts, variants, &mut bounds);
     let fence = fence_of(s);
     let mut places: [usize; 20] = [0; 20];
     let mut names: [usize; 128] = [0; 128];
@@ -90,6 +93,7 @@ fn fire_file(
         model,
         layouts,
         variants,
+        &bounds,
         options,
         &table,
         listed,
@@ -111,7 +115,7 @@ fn staged(
     options: &[u8],
     room: usize,
     stage: &mut [u8],
-    heads: &mut [usize; 512],
+    heads: &mut [usize; 256],
 ) -> ListedAnswer
     requires { ⌜ length (now stage) ≡ stageSize ⌝ }
     ensures { λ r. ⌜ StagedListed room (now (s .entry)) (textsOf (now (model .entry)) (now (layouts .entry)) (now (variants .entry)) (now (options .entry)))
@@ -179,7 +183,7 @@ pub fn measure(
         (textsOf (now (model .entry)) (now (layouts .entry)) (now (variants .entry)) (now (options .entry)))) ⌝ }
 {
     let mut stage: [u8; 10240] = [0; 10240];
-    let mut heads: [usize; 512] = [0; 512];
+    let mut heads: [usize; 256] = [0; 256];
     let r = staged(
         s,
         model,
@@ -206,7 +210,7 @@ pub fn resolve(
         (now (buf .entry)) (now (buf .exit)) r ⌝ }
 {
     let mut stage: [u8; 10240] = [0; 10240];
-    let mut heads: [usize; 512] = [0; 512];
+    let mut heads: [usize; 256] = [0; 256];
     let r = staged(
         s,
         model,

@@ -10,6 +10,7 @@ ghost use Rattle.text.specs.Reading.{Table, Fenced, Within, left, follow};
 ghost use Rattle.output.specs.Store.{farthest};
 ghost use Rattle.profile.specs.Profile.{fields, optionsOf, textsOf, profileOf};
 ghost use Rattle.profile.specs.Listing.{Listed};
+ghost use Rattle.profile.specs.Bounds.{Bounds};
 ghost use Rattle.rules.specs.Checking.{Named, presentOf, checkFrom, namesAt};
 ghost use Rattle.values.specs.Filling.{Short};
 ghost use Rattle.matching.specs.Groups.{groupsAt, Rowed};
@@ -24,7 +25,9 @@ use firing::rule::fire_rule;
 use matching::columns::left_word;
 use matching::ranges::has_options;
 use matching::ranges::layout_range;
-use profile::fields::field;
+use profile::fields::LAYOUTS;
+use profile::fields::VARIANTS;
+use profile::fields::field_at;
 use rules::SetHeading;
 use rules::check::fence_behind;
 use rules::lines::split_line;
@@ -44,6 +47,7 @@ fn fire_line(
     model: &[u8],
     layouts: &[u8],
     variants: &[u8],
+    bounds: &[usize; 16],
     n: usize,
     k: usize,
     scratch: &mut [u8],
@@ -53,7 +57,8 @@ fn fire_line(
     requires { ⌜ Within (now s) (now t) fence from line × (length (now places) ≡ 20) × SetSized h
         × (length (left (now s) from) ≡ h .left + 1 + h .right) × ShortWords (left (now s) from)
         × (n ≡ length (fields (now layouts))) × (1 ≤ n) × (n < 100) × (k < 100) × Short (now model) (now layouts) (now variants)
-        × (8192 ≤ length (now scratch)) × (length (now scratch) ≤ farthest) × (length (now buf) ≤ farthest) × Low (q .at) ⌝ }
+        × (8192 ≤ length (now scratch)) × (length (now scratch) ≤ farthest) × (length (now buf) ≤ farthest) × Low (q .at)
+        × Bounds (now layouts) (now variants) (now bounds) ⌝ }
     ensures { λ r. ⌜ FiredLineOf (profileOf (textsOf (now (model .entry)) (now (layouts .entry)) (now (variants .entry)) [])) (headingBy h)
         (now (s .entry)) from line (now (buf .entry)) (now (buf .exit)) q k r ⌝ }
 {
@@ -69,6 +74,7 @@ fn fire_line(
         model,
         layouts,
         variants,
+        bounds,
         n,
         k,
         scratch,
@@ -96,6 +102,7 @@ pub fn run_set(
     model: &[u8],
     layouts: &[u8],
     variants: &[u8],
+    bounds: &[usize; 16],
     options: &[u8],
     table: &[usize; 128],
     listed: usize,
@@ -114,14 +121,15 @@ pub fn run_set(
         × Short (now model) (now layouts) (now variants)
         × (8192 ≤ length (now scratch)) × (length (now scratch) ≤ farthest) × (length (now buf) ≤ farthest) × Low (q .at)
         × (start ≤ length (now s)) × (number ≤ start + 1)
-        × (checkFrom (namesAt (now s) (now names) groups) (presentOf (headingBy h)) (follow (now s) start number) ≡ []) ⌝ }
+        × (checkFrom (namesAt (now s) (now names) groups) (presentOf (headingBy h)) (follow (now s) start number) ≡ [])
+        × Bounds (now layouts) (now variants) (now bounds) ⌝ }
     ensures { λ r. ⌜ FiredSet (profileOf (textsOf (now (model .entry)) (now (layouts .entry)) (now (variants .entry)) (now (options .entry))))
         (groupsAt (now (s .entry)) (now (names .entry)) groups) (headingBy h) every (now (buf .entry)) (now (buf .exit)) q r k (follow (now (s .entry)) start number) ⌝ }
 {
     let columns = h.columns;
     let left = h.left;
-    let layout = field(layouts, place(k));
-    let variant = field(variants, place(k));
+    let layout = field_at(layouts, bounds, LAYOUTS, place(k));
+    let variant = field_at(variants, bounds, VARIANTS, place(k));
     let mut m = q;
     let mut at = start;
     let mut line = number;
@@ -175,6 +183,7 @@ pub fn run_set(
             model,
             layouts,
             variants,
+            bounds,
             n,
             k,
             scratch,
@@ -205,6 +214,7 @@ pub fn run_layouts(
     model: &[u8],
     layouts: &[u8],
     variants: &[u8],
+    bounds: &[usize; 16],
     options: &[u8],
     table: &[usize; 128],
     listed: usize,
@@ -224,7 +234,8 @@ pub fn run_layouts(
         × Short (now model) (now layouts) (now variants)
         × (8192 ≤ length (now scratch)) × (length (now scratch) ≤ farthest) × (length (now buf) ≤ farthest) × Low (q .at)
         × (start ≤ length (now s)) × (number ≤ start + 1)
-        × (checkFrom (namesAt (now s) (now names) groups) (presentOf (headingBy h)) (follow (now s) start number) ≡ []) ⌝ }
+        × (checkFrom (namesAt (now s) (now names) groups) (presentOf (headingBy h)) (follow (now s) start number) ≡ [])
+        × Bounds (now layouts) (now variants) (now bounds) ⌝ }
     ensures { λ r. ⌜ FiredRange (profileOf (textsOf (now (model .entry)) (now (layouts .entry)) (now (variants .entry)) (now (options .entry))))
         (groupsAt (now (s .entry)) (now (names .entry)) groups) (headingBy h) every (now (buf .entry)) (now (buf .exit)) q r count first (follow (now (s .entry)) start number) ⌝ }
 {
@@ -244,6 +255,7 @@ pub fn run_layouts(
             model,
             layouts,
             variants,
+            bounds,
             options,
             table,
             listed,
@@ -273,6 +285,7 @@ pub fn run_heading(
     model: &[u8],
     layouts: &[u8],
     variants: &[u8],
+    bounds: &[usize; 16],
     options: &[u8],
     table: &[usize; 128],
     listed: usize,
@@ -290,7 +303,8 @@ pub fn run_heading(
         × Short (now model) (now layouts) (now variants)
         × (8192 ≤ length (now scratch)) × (length (now scratch) ≤ farthest) × (length (now buf) ≤ farthest) × Low (q .at)
         × (start ≤ length (now s)) × (number ≤ start + 1)
-        × (checkFrom (namesAt (now s) (now names) groups) (presentOf (headingBy h)) (follow (now s) start number) ≡ []) ⌝ }
+        × (checkFrom (namesAt (now s) (now names) groups) (presentOf (headingBy h)) (follow (now s) start number) ≡ [])
+        × Bounds (now layouts) (now variants) (now bounds) ⌝ }
     ensures { λ r. ⌜ FiredHeading (profileOf (textsOf (now (model .entry)) (now (layouts .entry)) (now (variants .entry)) (now (options .entry))))
         (groupsAt (now (s .entry)) (now (names .entry)) groups) (headingBy h) (now (buf .entry)) (now (buf .exit)) q r (follow (now (s .entry)) start number) ⌝ }
 {
@@ -312,6 +326,7 @@ pub fn run_heading(
         model,
         layouts,
         variants,
+        bounds,
         options,
         table,
         listed,

@@ -1,15 +1,17 @@
 // The walk over an accepted file, from heading to heading: groups are noted, sets are run.
 ghost use mathlib.Core.Path.{_≡_};
-ghost use mathlib.Core.Bool.{true};
+ghost use mathlib.Core.Bool.{true, false};
 ghost use mathlib.Core.List.{[]};
 ghost use Prim.Native.Nat.{_≤_, _<_, _+_, min};
-ghost use lib.ListN.{length};
+ghost use lib.ListN.{length, getD};
 ghost use Rattle.text.specs.Limits.{mostOptions};
-ghost use Rattle.text.specs.Reading.{Table, Fenced, Within, Opens};
+ghost use Rattle.text.specs.Reading.{Table, Fenced, Within, Opens, left};
 ghost use Rattle.output.specs.Store.{farthest};
 ghost use Rattle.profile.specs.Profile.{fields, optionsOf, textsOf, profileOf};
 ghost use Rattle.profile.specs.Listing.{Listed};
+ghost use Rattle.profile.specs.Bounds.{Bounds};
 ghost use Rattle.rules.specs.Faults.{lineFaults};
+ghost use Rattle.rules.specs.Words.{hasDollar};
 ghost use Rattle.rules.specs.Checking.{Ready, leftFaults, mostHeads};
 ghost use Rattle.resolver.specs.Heads.{AllHeads, NextHead, KthHeading};
 ghost use Rattle.values.specs.Filling.{Short};
@@ -27,10 +29,10 @@ use rules::check::fence_behind;
 use rules::judge::form_of;
 use rules::lines::split_line;
 use rules::sets::read_set;
-use rules::sets::word;
-use rules::words::has_dollar;
+use text::Next;
 use text::reader::open_line;
 use text::reader::pass_line;
+use text::reader::word_at;
 
 // The next heading from a line on. Lines before it are passed over: they fire nothing by themselves.
 fn next_heading(s: &[u8], t: &[u8; 512], fence: usize, at: usize, line: usize) -> HeadingAt
@@ -67,7 +69,7 @@ fn next_heading(s: &[u8], t: &[u8; 512], fence: usize, at: usize, line: usize) -
 fn number_after(k: usize) -> usize
     ensures { λ r. ⌜ r ≡ min (k + 1) mostHeads ⌝ }
 {
-    if k < 256 { k + 1 } else { 256 }
+    if k < 128 { k + 1 } else { 128 }
 }
 
 // The k-th heading, from the list of the first `count`. Where they are not all listed and k is behind them, it is looked for from a line on.
@@ -75,7 +77,7 @@ fn find_heading(
     s: &[u8],
     t: &[u8; 512],
     fence: usize,
-    heads: &[usize; 512],
+    heads: &[usize; 256],
     count: usize,
     k: usize,
     at: usize,
@@ -96,7 +98,7 @@ fn find_heading(
             line: o.line,
         };
     }
-    if count < 256 {
+    if count < 128 {
         return HeadingAt {
             found: false,
             start: s.len(),
@@ -108,17 +110,18 @@ fn find_heading(
     next_heading(s, t, fence, at, line)
 }
 
-// A heading, whose words begin at `from`: a group is noted, a set is run.
-fn walk_heading(
+// The heading of a set, whose words begin at `from`: the set is run.
+fn walk_set(
     s: &[u8],
     t: &[u8; 512],
     fence: usize,
     places: &mut [usize],
-    names: &mut [usize; 128],
-    rows: &mut [bool; 640],
+    names: &[usize; 128],
+    rows: &[bool; 640],
     model: &[u8],
     layouts: &[u8],
     variants: &[u8],
+    bounds: &[usize; 16],
     options: &[u8],
     table: &[usize; 128],
     listed: usize,
@@ -136,9 +139,10 @@ fn walk_heading(
         × Short (now model) (now layouts) (now variants)
         × (8192 ≤ length (now scratch)) × (length (now scratch) ≤ farthest) × (length (now buf) ≤ farthest) × Low (w .cursors .at)
         × (w .progress .at < length (now s)) × (leftFaults (now s) (now names) (w .progress) ≡ [])
-        × Opens (now s) (w .progress .at) (w .progress .line) true from number ⌝ }
+        × Opens (now s) (w .progress .at) (w .progress .line) true from number × (hasDollar (getD (left (now s) from) 0 []) ≡ false)
+        × Bounds (now layouts) (now variants) (now bounds) ⌝ }
     ensures { λ r. ⌜ WalkedLine (profileOf (textsOf (now (model .entry)) (now (layouts .entry)) (now (variants .entry)) (now (options .entry))))
-        (now (s .entry)) (now (names .entry)) (now (names .exit)) (now (rows .exit)) (now (buf .entry)) (now (buf .exit)) w r ⌝ }
+        (now (s .entry)) (now (names .entry)) (now (names .entry)) (now (rows .entry)) (now (buf .entry)) (now (buf .exit)) w r ⌝ }
 {
     let p = w.progress;
     let groups = p.groups;
@@ -146,42 +150,6 @@ fn walk_heading(
     let l = split_line(true, x, t, fence_behind(fence, from), places);
     let at = from + l.next;
     let line = number + l.line;
-    if has_dollar(word(x, places, 0)) {
-        let name = from + places[0] + 1;
-        let end = from + places[1];
-        note_group(
-            s,
-            t,
-            fence,
-            name,
-            end,
-            names,
-            model,
-            layouts,
-            variants,
-            options,
-            table,
-            listed,
-            rows,
-            groups,
-        );
-        let cursors = w.cursors;
-        return Walk {
-            progress: Progress {
-                at,
-                line,
-                groups: groups + 1,
-                present: Present {
-                    form: 0,
-                    left: 0,
-                    right: 0,
-                },
-                fault: 0,
-                heading: true,
-            },
-            cursors,
-        };
-    }
     let h = read_set(x, places, l.tally.first, l.tally.count);
     let cursors = run_heading(
         s,
@@ -195,6 +163,7 @@ fn walk_heading(
         model,
         layouts,
         variants,
+        bounds,
         options,
         table,
         listed,
@@ -223,12 +192,136 @@ fn walk_heading(
     }
 }
 
+// A heading, whose words begin at `from`: a group is noted, a set is run.
+fn walk_heading(
+    s: &[u8],
+    t: &[u8; 512],
+    fence: usize,
+    places: &mut [usize],
+    names: &mut [usize; 128],
+    rows: &mut [bool; 640],
+    model: &[u8],
+    layouts: &[u8],
+    variants: &[u8],
+    bounds: &[usize; 16],
+    options: &[u8],
+    table: &[usize; 128],
+    listed: usize,
+    n: usize,
+    scratch: &mut [u8],
+    buf: &mut [u8],
+    from: usize,
+    number: usize,
+    w: Walk,
+) -> Walk
+    requires { ⌜ Table (now t) × Fenced (now s) fence × (length (now places) ≡ 20) × Ready (now s) (now names) (w .progress)
+        × Rowed (profileOf (textsOf (now model) (now layouts) (now variants) (now options))) (now s) (now names) (now rows) (w .progress .groups)
+        × Listed (now options) (now table) listed × (length (optionsOf (now options)) ≤ mostOptions)
+        × (n ≡ length (fields (now layouts))) × (1 ≤ n) × (n ≤ 4)
+        × Short (now model) (now layouts) (now variants)
+        × (8192 ≤ length (now scratch)) × (length (now scratch) ≤ farthest) × (length (now buf) ≤ farthest) × Low (w .cursors .at)
+        × (w .progress .at < length (now s)) × (leftFaults (now s) (now names) (w .progress) ≡ [])
+        × Opens (now s) (w .progress .at) (w .progress .line) true from number
+        × Bounds (now layouts) (now variants) (now bounds) ⌝ }
+    ensures { λ r. ⌜ WalkedLine (profileOf (textsOf (now (model .entry)) (now (layouts .entry)) (now (variants .entry)) (now (options .entry))))
+        (now (s .entry)) (now (names .entry)) (now (names .exit)) (now (rows .exit)) (now (buf .entry)) (now (buf .exit)) w r ⌝ }
+{
+    match word_at(s, t, fence, from, number) {
+        Next::Found {
+            start,
+            end,
+            line,
+            fault: _,
+        } => {
+            if s[start] != b'$' {
+                return walk_set(
+                    s,
+                    t,
+                    fence,
+                    places,
+                    names,
+                    rows,
+                    model,
+                    layouts,
+                    variants,
+                    bounds,
+                    options,
+                    table,
+                    listed,
+                    n,
+                    scratch,
+                    buf,
+                    from,
+                    number,
+                    w,
+                );
+            }
+            let p = w.progress;
+            let groups = p.groups;
+            let e = note_group(
+                s,
+                t,
+                fence,
+                start + 1,
+                end,
+                line,
+                names,
+                model,
+                layouts,
+                variants,
+                options,
+                table,
+                listed,
+                rows,
+                groups,
+            );
+            let cursors = w.cursors;
+            Walk {
+                progress: Progress {
+                    at: e.at,
+                    line: e.line,
+                    groups: groups + 1,
+                    present: Present {
+                        form: 0,
+                        left: 0,
+                        right: 0,
+                    },
+                    fault: 0,
+                    heading: true,
+                },
+                cursors,
+            }
+        }
+        Next::Stop { next: _, line: _ } => walk_set(
+            s,
+            t,
+            fence,
+            places,
+            names,
+            rows,
+            model,
+            layouts,
+            variants,
+            bounds,
+            options,
+            table,
+            listed,
+            n,
+            scratch,
+            buf,
+            from,
+            number,
+            w,
+        ),
+    }
+}
+
 // The walk over a file whose lines are accepted: all that fires is written.
 pub fn walk(
     s: &[u8],
     t: &[u8; 512],
     fence: usize,
-    heads: &[usize; 512],
+    heads: &[usize; 256],
     count: usize,
     places: &mut [usize],
     names: &mut [usize; 128],
@@ -236,6 +329,7 @@ pub fn walk(
     model: &[u8],
     layouts: &[u8],
     variants: &[u8],
+    bounds: &[usize; 16],
     options: &[u8],
     table: &[usize; 128],
     listed: usize,
@@ -249,7 +343,8 @@ pub fn walk(
         × (n ≡ length (fields (now layouts))) × (1 ≤ n) × (n ≤ 4)
         × Short (now model) (now layouts) (now variants)
         × (8192 ≤ length (now scratch)) × (length (now scratch) ≤ farthest) × (length (now buf) ≤ farthest) × Low (q .at)
-        × (lineFaults (now s) ≡ []) × AllHeads (now s) (now heads) count ⌝ }
+        × (lineFaults (now s) ≡ []) × AllHeads (now s) (now heads) count
+        × Bounds (now layouts) (now variants) (now bounds) ⌝ }
     ensures { λ r. ⌜ WalkedFile (profileOf (textsOf (now (model .entry)) (now (layouts .entry)) (now (variants .entry)) (now (options .entry))))
         (now (s .entry)) (now (buf .entry)) (now (buf .exit)) q r ⌝ }
 {
@@ -288,6 +383,7 @@ pub fn walk(
             model,
             layouts,
             variants,
+            bounds,
             options,
             table,
             listed,

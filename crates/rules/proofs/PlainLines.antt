@@ -7,10 +7,10 @@ use mathlib.Core.Bool.{Bool, true, false, not, _||_, _&&_, cond}
 use lib.ListN.{length, getD, take, drop}
 use lib.Dec.{eqb, ltb}
 use borrow.Author.Tests.{eq-eqb, ne-eqb, eqb-true, eqb-false}
-use Rattle.text.specs.Bytes.{Text, Words, allOf, anyOf, part}
+use Rattle.text.specs.Bytes.{Text, Words, same, allOf, anyOf, part}
 use Rattle.text.specs.Lines.{Line}
 use Rattle.text.specs.Words.{badByte, tooLong, wordsFault}
-use Rattle.text.specs.Reading.{left, ahead, follow, faultOf, kindOf, Fenced, Blanks, Skipped, PlainFound, NoWord, Opens}
+use Rattle.text.specs.Reading.{left, ahead, follow, faultOf, kindOf, Fenced, Blanks, Skipped, PlainFound, ByteWord, NoWord, Opens}
 use Rattle.text.proofs.Lists.{no, and-both}
 use Rattle.text.proofs.ByteKinds.{not-bad, kind-zero}
 use Rattle.text.proofs.Readers.{lineAt, line-first, fault-cons, fault-nil, lower-zero, blanks-start, between-skip, between-feed, opened-skip, opened-same, fence-in}
@@ -109,19 +109,21 @@ module _ (s : Text) (f : ℕ) (i : Bool) (from n at j : ℕ) (v : Rights s f i f
       let q : j ≡ 0 = omega arith in
       record { low = v .low; inside = v .inside; words = rw q at (v .words); onto = v .onto }
 
--- a rule: its left words up to a, `=` from b to c, its right words up to d, and then nothing but blanks up to the LF at e
-pub rule-read : (s : Text) (f from : ℕ) (p : Present) (a b c d e : ℕ) → Fenced s f → LeftRead s f from (p .left) a → PlainFound s f a b c → isEquals (part s b c) ≡ true →
+-- a rule: its left words up to a, `=` up to c, its right words up to d, and then nothing but blanks up to the LF at e
+pub rule-read : (s : Text) (f from : ℕ) (p : Present) (a c d e : ℕ) → Fenced s f → LeftRead s f from (p .left) a → ByteWord s f a 61 c →
     RightRead s f (eqb (p .form) 2) c (p .right) d → Blanks s d e → e < f → getD s e 0 ≡ 10 → RuleRead s from p (e + 1)
-unfolding goodRight
-rule-read s f from p a b c d e g l w o r k h z =
+unfolding goodRight isEquals same
+rule-read s f from p a c d e g l v r k h z =
     let i = fence-in s f e g h in
+    let w = v .word in
     let u = w .found 0 (omega arith) in
+    let o : isEquals (part s (v .start) c) ≡ true = rw (v .text) refl in
     let x : (m : ℕ) → m ≤ d + 1 → NoWord s d m (e + 1) (m + 1) = λ m y. between-feed s d m e m (between-skip s d m e y k) i z in
     record {
       low = omega (arith, l .low, u .low, u .some, r .low, k .low);
       high = omega arith;
       good = l .words (eqb (p .form) 2) (p .right)
-          ∙ (rw (u .text) (equals-cons (eqb (p .form) 2) (p .right) (part s b c) (left s c) (sym (u .fault)) o)
+          ∙ (rw (u .text) (equals-cons (eqb (p .form) 2) (p .right) (part s (v .start) c) (left s c) (sym (u .fault)) o)
           ∙ (r .words ∙ rw (x 0 (omega arith) .none) refl));
       onto = λ m y.
           l .onto m y

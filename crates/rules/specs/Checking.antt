@@ -150,7 +150,7 @@ fromHeading zero ls = toHeading ls
 fromHeading (suc k) ls = toHeading (drop 1 (fromHeading k ls))
 
 abbrev pub mostHeads : ℕ
-mostHeads = 256
+mostHeads = 128
 
 -- the line that starts at a and has the number m is the k-th heading
 pub record HeadAt (s : Text) (k a m : ℕ) : Type 0 where

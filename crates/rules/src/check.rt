@@ -169,15 +169,15 @@ fn check_line(
     }
 }
 
-// One line more: where it starts and its number are listed, if it is a heading and one of the first 256.
-fn list_heading(heads: &mut [usize; 512], n: usize, heading: bool, at: usize, line: usize) -> usize
-    requires { ⌜ length (now heads) ≡ 512 ⌝ }
+// One line more: where it starts and its number are listed, if it is a heading and one of the first 128.
+fn list_heading(heads: &mut [usize; 256], n: usize, heading: bool, at: usize, line: usize) -> usize
+    requires { ⌜ length (now heads) ≡ 256 ⌝ }
     ensures { λ r. ⌜ Lists (now (heads .entry)) (now (heads .exit)) n heading at line r ⌝ }
 {
     if !heading {
         return n;
     }
-    if 256 <= n {
+    if 128 <= n {
         return n;
     }
     heads[2 * n] = at;
@@ -186,11 +186,11 @@ fn list_heading(heads: &mut [usize; 512], n: usize, heading: bool, at: usize, li
 }
 
 // The first refusal of a file, 3 to 10, or number 0; where the names of its groups stand, and where its first headings.
-pub fn check_file(s: &[u8], names: &mut [usize; 128], heads: &mut [usize; 512]) -> Checked
+pub fn check_file(s: &[u8], names: &mut [usize; 128], heads: &mut [usize; 256]) -> Checked
     ensures { λ r. ⌜ Checks (now (s .entry)) (now (names .exit)) (now (heads .exit)) r ⌝ }
 {
     *names = [0; 128];
-    *heads = [0; 512];
+    *heads = [0; 256];
     if 65536 < s.len() {
         return Checked {
             refusal: Refusal {

@@ -6,11 +6,11 @@ ghost use Rattle.text.specs.Reading.{Table, Fenced};
 ghost use Rattle.rules.specs.Plain.{LeftRead, RightWord, RightRead, RuleRead, LineRead};
 use super::Present;
 use super::percent::is_malformed;
-use super::words::is_equals;
 use super::words::is_left_word;
 use super::words::is_ordinary;
 use text::Plain;
 use text::bytes::kind;
+use text::reader::byte_word;
 use text::reader::plain_word;
 use text::reader::skip_fast;
 use text::reader::value_word;
@@ -101,23 +101,19 @@ fn rule_end(s: &[u8], t: &[u8; 512], fence: usize, from: usize, p: Present) -> u
     if a == 0 {
         return 0;
     }
-    match plain_word(s, t, fence, a) {
-        Plain::Word { start, end } => {
-            if !is_equals(&s[start..end]) {
-                return 0;
-            }
-            let b = right_end(s, t, fence, end, p.right, p.form == 2);
-            if b == 0 {
-                return 0;
-            }
-            let e = skip_fast(s, t, fence, b);
-            if s[e] != 10 {
-                return 0;
-            }
-            e + 1
-        }
-        Plain::Other => 0,
+    let c = byte_word(s, t, fence, a, b'=');
+    if c == 0 {
+        return 0;
     }
+    let b = right_end(s, t, fence, c, p.right, p.form == 2);
+    if b == 0 {
+        return 0;
+    }
+    let e = skip_fast(s, t, fence, b);
+    if s[e] != 10 {
+        return 0;
+    }
+    e + 1
 }
 
 // A line under the heading p, from its start on.

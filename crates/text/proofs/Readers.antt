@@ -22,7 +22,7 @@ use Rattle.text.specs.Bytes.{Text, Words, first, part, allOf, anyOf}
 use Rattle.text.specs.Marks.{classOf, Mark, char, gap, join, bang, end, atFeed, atOther, step, marks}
 use Rattle.text.specs.Lines.{run, words, heading, Line, feeds, inside, linesOf, lines}
 use Rattle.text.specs.Words.{badByte, tooLong, wordsFault}
-use Rattle.text.specs.Reading.{left, wordly, inWord, ahead, follow, faultOf, lower, levelOf, kindOf, Table, Fenced, Within, WordEnd, InWord, PlainEnd, RunEnd, OddWord, CommentEnd, Blanks, Skipped, FoundWord, NoWord, Between, FastWord, PlainFound, PlainWord, ValueWord, NextWord, Opens}
+use Rattle.text.specs.Reading.{left, wordly, inWord, ahead, follow, faultOf, lower, levelOf, kindOf, Table, Fenced, Within, WordEnd, InWord, PlainEnd, RunEnd, OddWord, CommentEnd, Blanks, Skipped, FoundWord, NoWord, Between, FastWord, PlainFound, PlainWord, ValueWord, ByteWord, NextWord, Opens}
 use Rattle.text.proofs.Lists.{no, and-both}
 use Rattle.text.proofs.Positions.{first-drop, part-empty, part-cons, part-snoc, in-word-start, in-word-more, in-word-over, marks-at, step-other, step-feed, comment-words, first-in, any-cons, any-nil, length-part, lines-char, lines-gap, lines-bang, lines-join, lines-end, lines-nil}
 use Rattle.text.proofs.ByteKinds.{pick, Plain, not-bad, plain-in-word, kind-one, kind-stop, Begins, begins-char, kind-zero, join-class, note-class, bang-class, differ}
@@ -626,6 +626,30 @@ value-found s f from i p v k h z y r l m n o =
         anyOf (λ b. eqb b 37) (getD s i 0 ∷ part s (i + 1) p) ≡ false
     first-none true e g = absurd (y (eqb-true _ _ e))
     first-none false e g = rw (e, g) refl
+
+-- a byte of kind 1 or 2 has the highest level
+kind-level : (b : ℕ) → (kindOf b ≡ 0 → ⊥) → kindOf b ≤ 2 → 0 < levelOf b
+unfolding levelOf
+kind-level b n l = rw (kind-bad b n l) (omega arith)
+
+pub byte-next : (s : List ℕ) (f i b : ℕ) → Fenced s f → i < f → getD s i 0 ≡ b → kindOf b ≡ 0 → i + 1 < length s
+byte-next s f i b v h e z =
+    let p : kindOf (getD s i 0) ≡ 0 = rw e z in
+    fence-in s f (i + 1) v (fence-plain s f i v h (kind-zero (getD s i 0) 0 p .1))
+
+-- a word of one byte
+pub byte-found : (s : List ℕ) (f from i b : ℕ) → Fenced s f → Skipped s from i → i < f → getD s i 0 ≡ b → kindOf b ≡ 0 → (b ≡ 37 → ⊥) →
+    (kindOf (getD s (i + 1) 0) ≡ 0 → ⊥) → kindOf (getD s (i + 1) 0) ≤ 2 → ByteWord s f from b (i + 1)
+byte-found s f from i b v k h e z y m n =
+    let a = fence-in s f i v h in
+    let p : kindOf (getD s i 0) ≡ 0 = rw e z in
+    let l : i + 1 < f = fence-plain s f i v h (kind-zero (getD s i 0) 0 p .1) in
+    let r = fast-stop s f 0 (i + 1) (i + 1) (fast-start s f 0 (i + 1) v l) (kind-level (getD s (i + 1) 0) m n) in
+    record {
+      start = i;
+      word = value-found s f from i (i + 1) v k h p (λ q. y (sym e ∙ q)) (r .0) l m n (omega arith) .0;
+      text = part-cons s i (i + 1) (omega arith) (omega (arith, fence-in s f (i + 1) v l)) ∙ rw (e, part-empty s (i + 1)) refl;
+    }
 
 pub record FastBlanks (s : List ℕ) (f from i : ℕ) : Type 0 where
   pub run : Blanks s from i

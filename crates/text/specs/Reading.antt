@@ -190,6 +190,12 @@ abbrev pub ValueWord : List ℕ → ℕ → ℕ → Plain → Type 0
 ValueWord s f at (plain.Word a e) = PlainFound s f at a e × (anyOf (λ b. eqb b 37) (part s a e) ≡ false)
 ValueWord s f at plain.Other = Unit {0}
 
+-- the word of the byte b alone, up to e
+pub record ByteWord (s : List ℕ) (f at b e : ℕ) : Type 0 where
+  pub start : ℕ
+  pub word : PlainFound s f at start e
+  pub text : part s start e ≡ b ∷ []
+
 abbrev pub NextWord : List ℕ → ℕ → ℕ → Next → Type 0
 NextWord s at n (Found a e m f) = FoundWord s at n a e m f
 NextWord s at n (Stop p m) = NoWord s at n p m

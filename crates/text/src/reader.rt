@@ -6,7 +6,7 @@ ghost use lib.Dec.{eqb};
 ghost use lib.ListN.{length, getD, drop};
 ghost use Rattle.text.specs.Bytes.{first, part, anyOf};
 ghost use Rattle.text.specs.Words.{badByte};
-ghost use Rattle.text.specs.Reading.{WordEnd, PlainEnd, RunEnd, Skipped, OddWord, CommentEnd, FastWord, PlainWord, ValueWord, NextWord, FirstFeed, Passed, Opens, Table, Fenced, Within};
+ghost use Rattle.text.specs.Reading.{WordEnd, PlainEnd, RunEnd, Skipped, OddWord, CommentEnd, FastWord, PlainWord, ValueWord, ByteWord, NextWord, FirstFeed, Passed, Opens, Table, Fenced, Within, kindOf};
 use super::Fast;
 use super::LineStart;
 use super::Next;
@@ -297,6 +297,25 @@ pub fn value_word(s: &[u8], t: &[u8; 512], fence: usize, from: usize) -> Plain
         return Plain::Other;
     }
     Plain::Word { start: i, end: p }
+}
+
+// The word that is the byte b alone, if it is next: its end, or 0. 0 says nothing, as above.
+pub fn byte_word(s: &[u8], t: &[u8; 512], fence: usize, from: usize, b: u8) -> usize
+    requires { ⌜ (from < fence) × (Table (now t) × Fenced (now s) fence) × (kindOf b ≡ 0) × (b ≡ 37 → ⊥) ⌝ }
+    ensures { λ r. ⌜ ((r ≡ 0 → ⊥) → ByteWord (now (s .entry)) fence from b r) ⌝ }
+{
+    let i = skip_fast(s, t, fence, from);
+    if s[i] != b {
+        return 0;
+    }
+    let k = kind(t, s[i + 1]);
+    if k == 0 {
+        return 0;
+    }
+    if 2 < k {
+        return 0;
+    }
+    i + 1
 }
 
 // The same as `next_word`, smaller: it is called where words are few. The compiler takes `next_word` into the one loop that calls it.

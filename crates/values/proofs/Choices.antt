@@ -1,4 +1,4 @@
--- What a percent item stands for, by the ways of `chosen`, `value_of` and `put_piece`.
+-- What a percent item stands for, by the ways of `chosen`, `put_item` and `put_piece`.
 use Prim.Native.Nat.{ℕ, _-_, _≤_, _<_}
 use native.Mathlib.Omega.{arith}
 use mathlib.Core.Path.{_≡_, refl, sym, _∙_}

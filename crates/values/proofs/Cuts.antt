@@ -10,7 +10,7 @@ use Rattle.text.proofs.Comparing.{drop-at}
 use Rattle.text.proofs.Positions.{part-empty, part-snoc, part-cons}
 use Rattle.profile.specs.Profile.{push}
 use Rattle.values.specs.Spread.{isSign, cuts}
-use Rattle.values.specs.Cutting.{upto, beyond, CutEnd}
+use Rattle.values.specs.Cutting.{upto, beyond, InCut, CutEnd}
 
 -- the cuts behind the first
 later : Text → List Text
@@ -82,13 +82,7 @@ beyond-nil : beyond [] ≡ []
 unfolding beyond
 beyond-nil = refl
 
--- the loop of `cut_end`: no sign stands from `from` up to i
-pub record InCut (t : Text) (from i : ℕ) : Type 0 where
-  pub low : from ≤ i
-  pub high : i ≤ length t
-  pub piece : upto (drop from t) ≡ part t from i ++ upto (drop i t)
-  pub rest : beyond (drop from t) ≡ beyond (drop i t)
-
+-- the loops of `pass_plain` and `cut_end`
 module _ (t : Text) (from : ℕ) where
   pub in-cut-start : from ≤ length t → InCut t from from
   in-cut-start h = record { low = omega arith; high = h; piece = rw (part-empty t from); rest = refl }
@@ -117,6 +111,18 @@ module _ (t : Text) (from : ℕ) where
             piece = v .piece ∙ rw (drop-at t i h, upto-sign _ _ e, append-nil);
             rest = v .rest ∙ rw (drop-at t i h, beyond-sign _ _ e);
           }
+
+pub in-cut-four : (t : Text) (from i : ℕ) → InCut t from i → i + 3 < length t → isSign (getD t i 0) ≡ false → isSign (getD t (i + 1) 0) ≡ false →
+    isSign (getD t (i + 2) 0) ≡ false → isSign (getD t (i + 3) 0) ≡ false → InCut t from (i + 4)
+in-cut-four t from i v h e₀ e₁ e₂ e₃ =
+    let v₁ = in-cut-more t from i v (omega arith) e₀ in
+    let v₂ = in-cut-more t from (i + 1) v₁ (omega arith) e₁ in
+    let q₂ : i + 1 + 1 ≡ i + 2 = omega arith in
+    let v₃ = in-cut-more t from (i + 2) (rw q₂ at v₂) (omega arith) e₂ in
+    let q₃ : i + 2 + 1 ≡ i + 3 = omega arith in
+    let v₄ = in-cut-more t from (i + 3) (rw q₃ at v₃) (omega arith) e₃ in
+    let q₄ : i + 3 + 1 ≡ i + 4 = omega arith in
+    rw q₄ at v₄
 
 -- what a loop over the pieces does to what is left
 pub cut-at : (f : Text → Text) (t : Text) (i e : ℕ) → f [] ≡ [] → i < length t → CutEnd t (i + 1) e →

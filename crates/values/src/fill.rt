@@ -5,9 +5,13 @@ ghost use Prim.Native.Nat.{_*_, _-_, _≤_, _<_};
 ghost use lib.ListN.{length};
 ghost use Rattle.output.specs.Store.{farthest, Wrote};
 ghost use Rattle.profile.specs.Profile.{textsOf, fields, profileOf};
+ghost use Rattle.profile.specs.Bounds.{TextBounds, Bounds};
 ghost use Rattle.values.specs.Values.{choose, valueOf, pieceText, filled};
 ghost use Rattle.values.specs.Filling.{enclosed, prefixed, dressed, mostPerByte, Short, Filled};
 use super::write;
+use profile::fields::LAYOUTS;
+use profile::fields::VARIANTS;
+use profile::fields::field_at;
 use rules::Piece;
 use rules::Variable;
 use rules::Which;
@@ -22,18 +26,26 @@ pub fn place(k: usize) -> usize
     k - 1
 }
 
-// One of the layouts or variants: n is the layout count, k the matched layout. The empty part where the item is invalid.
-pub fn chosen<'a>(texts: &'a [u8], n: usize, k: usize, x: Which) -> &'a [u8]
+// One of the layouts or variants, whose bounds begin at `from`: n is the layout count, k the matched layout. The empty part where the item is invalid.
+pub fn chosen<'a>(
+    texts: &'a [u8],
+    bounds: &[usize; 16],
+    from: usize,
+    n: usize,
+    k: usize,
+    x: Which,
+) -> &'a [u8]
+    requires { ⌜ TextBounds (now texts) (now bounds) from ⌝ }
     ensures { λ r. ⌜ now r ≡ choose n k (fields (now (texts .entry))) x ⌝ }
 {
     match x {
         Which::Alone => {
             if n == 1 {
-                return profile::fields::field(texts, 0);
+                return field_at(texts, bounds, from, 0);
             }
             &texts[0..0]
         }
-        Which::Matched => profile::fields::field(texts, place(k)),
+        Which::Matched => field_at(texts, bounds, from, place(k)),
         Which::Numbered(j) => {
             if n <= 1 {
                 return &texts[0..0];
@@ -41,29 +53,9 @@ pub fn chosen<'a>(texts: &'a [u8], n: usize, k: usize, x: Which) -> &'a [u8]
             if n < j {
                 return &texts[0..0];
             }
-            profile::fields::field(texts, place(j))
+            field_at(texts, bounds, from, place(j))
         }
         Which::Wrong => &texts[0..0],
-    }
-}
-
-// What a percent item stands for.
-pub fn value_of<'a>(
-    model: &'a [u8],
-    layouts: &'a [u8],
-    variants: &'a [u8],
-    n: usize,
-    k: usize,
-    v: Variable,
-) -> &'a [u8]
-    requires { ⌜ n ≡ length (fields (now layouts)) ⌝ }
-    ensures { λ r. ⌜ now r ≡ valueOf (profileOf (textsOf (now (model .entry)) (now (layouts .entry)) (now (variants .entry)) [])) k v ⌝ }
-{
-    match v {
-        Variable::Model => model,
-        Variable::Layout(x) => chosen(layouts, n, k, x),
-        Variable::Variant(x) => chosen(variants, n, k, x),
-        Variable::Unknown => &model[0..0],
     }
 }
 
@@ -114,19 +106,26 @@ pub fn put_item(
     model: &[u8],
     layouts: &[u8],
     variants: &[u8],
+    bounds: &[usize; 16],
     n: usize,
     k: usize,
     out: &mut [u8],
     at: u32,
 ) -> u32
-    requires { ⌜ (n ≡ length (fields (now layouts))) × (length (now out) ≤ farthest) × (at ≤ farthest) ⌝ }
+    requires { ⌜ (n ≡ length (fields (now layouts))) × (length (now out) ≤ farthest) × (at ≤ farthest)
+        × Bounds (now layouts) (now variants) (now bounds) ⌝ }
     ensures { λ r. ⌜ Wrote (now (out .entry)) (now (out .exit)) at
         (dressed p (valueOf (profileOf (textsOf (now (model .entry)) (now (layouts .entry)) (now (variants .entry)) [])) k v)) r ⌝ }
 {
     match v {
         Variable::Model => put_dressed(p, model, out, at),
-        Variable::Layout(x) => put_dressed(p, chosen(layouts, n, k, x), out, at),
-        Variable::Variant(x) => put_dressed(p, chosen(variants, n, k, x), out, at),
+        Variable::Layout(x) => put_dressed(p, chosen(layouts, bounds, LAYOUTS, n, k, x), out, at),
+        Variable::Variant(x) => put_dressed(
+            p,
+            chosen(variants, bounds, VARIANTS, n, k, x),
+            out,
+            at,
+        ),
         Variable::Unknown => at,
     }
 }
@@ -137,26 +136,29 @@ pub fn put_piece(
     model: &[u8],
     layouts: &[u8],
     variants: &[u8],
+    bounds: &[usize; 16],
     n: usize,
     k: usize,
     out: &mut [u8],
     at: u32,
 ) -> u32
-    requires { ⌜ (n ≡ length (fields (now layouts))) × (k < 100) × (length (now out) ≤ farthest) × (at ≤ farthest) ⌝ }
+    requires { ⌜ (n ≡ length (fields (now layouts))) × (k < 100) × (length (now out) ≤ farthest) × (at ≤ farthest)
+        × Bounds (now layouts) (now variants) (now bounds) ⌝ }
     ensures { λ r. ⌜ Wrote (now (out .entry)) (now (out .exit)) at
         (pieceText (profileOf (textsOf (now (model .entry)) (now (layouts .entry)) (now (variants .entry)) [])) k p) r ⌝ }
 {
     match p {
         Piece::Byte(b) => write::put_byte(b, out, at),
         Piece::Number => write::put_number(k, out, at),
-        Piece::Bare(v) => put_item(p, v, model, layouts, variants, n, k, out, at),
-        Piece::Parens(v) => put_item(p, v, model, layouts, variants, n, k, out, at),
+        Piece::Bare(v) => put_item(p, v, model, layouts, variants, bounds, n, k, out, at),
+        Piece::Parens(v) => put_item(p, v, model, layouts, variants, bounds, n, k, out, at),
         Piece::Prefixed { sign: _, variable } => put_item(
             p,
             variable,
             model,
             layouts,
             variants,
+            bounds,
             n,
             k,
             out,
@@ -172,12 +174,14 @@ pub fn fill_value(
     model: &[u8],
     layouts: &[u8],
     variants: &[u8],
+    bounds: &[usize; 16],
     n: usize,
     k: usize,
     scratch: &mut [u8],
 ) -> usize
     requires { ⌜ (n ≡ length (fields (now layouts))) × (k < 100) × Short (now model) (now layouts) (now variants)
-        × (mostPerByte * length (now w) ≤ length (now scratch)) × (length (now scratch) ≤ farthest) ⌝ }
+        × (mostPerByte * length (now w) ≤ length (now scratch)) × (length (now scratch) ≤ farthest)
+        × Bounds (now layouts) (now variants) (now bounds) ⌝ }
     ensures { λ r. ⌜ Filled (now (scratch .entry)) (now (scratch .exit))
         (filled (profileOf (textsOf (now (model .entry)) (now (layouts .entry)) (now (variants .entry)) [])) k (now (w .entry))) r ⌝ }
 {
@@ -191,7 +195,7 @@ pub fn fill_value(
             continue;
         }
         let p = rules::percent::piece_after(w, i);
-        o = put_piece(p, model, layouts, variants, n, k, scratch, o);
+        o = put_piece(p, model, layouts, variants, bounds, n, k, scratch, o);
         i += rules::percent::piece_length(p);
     }
     output::wide(o)

@@ -9,7 +9,7 @@ ghost use Rattle.text.specs.Bytes.{concatMap};
 ghost use Rattle.output.specs.Store.{farthest, Wrote};
 ghost use Rattle.rules.specs.Headings.{decimal};
 ghost use Rattle.values.specs.Spread.{isSign, signed, cuts, endsAll, copy, copies, spread};
-ghost use Rattle.values.specs.Cutting.{CutEnd};
+ghost use Rattle.values.specs.Cutting.{InCut, CutEnd};
 use super::write;
 
 // Whether a byte is a sign.
@@ -96,12 +96,36 @@ pub fn put_cut(t: &[u8], n: usize, out: &mut [u8], at: u32) -> u32
     write::put_text(t, out, at)
 }
 
+// A place up to which no sign stands: four bytes a turn.
+fn pass_plain(t: &[u8], from: usize) -> usize
+    requires { ⌜ from ≤ length (now t) ⌝ }
+    ensures { λ r. ⌜ InCut (now (t .entry)) from r ⌝ }
+{
+    let mut i: usize = from;
+    while i + 3 < t.len() {
+        if is_sign(t[i]) {
+            return i;
+        }
+        if is_sign(t[i + 1]) {
+            return i;
+        }
+        if is_sign(t[i + 2]) {
+            return i;
+        }
+        if is_sign(t[i + 3]) {
+            return i;
+        }
+        i += 4;
+    }
+    i
+}
+
 // Where the piece that goes on at `from` ends: before the next sign, or at the text's end.
 pub fn cut_end(t: &[u8], from: usize) -> usize
     requires { ⌜ from ≤ length (now t) ⌝ }
     ensures { λ r. ⌜ CutEnd (now (t .entry)) from r ⌝ }
 {
-    let mut i: usize = from;
+    let mut i: usize = pass_plain(t, from);
     while i < t.len() {
         if is_sign(t[i]) {
             return i;
@@ -111,11 +135,14 @@ pub fn cut_end(t: &[u8], from: usize) -> usize
     i
 }
 
-// Writes a filled value with its `:all` spread over n layouts.
+// Writes a filled value with its `:all` spread over n layouts. At the farthest position nothing is written any more, and none is gone on to.
 pub fn put_spread(t: &[u8], n: usize, out: &mut [u8], at: u32) -> u32
     requires { ⌜ (n < 100) × (length (now out) ≤ farthest) × (at ≤ farthest) ⌝ }
     ensures { λ r. ⌜ Wrote (now (out .entry)) (now (out .exit)) at (concatMap (spread n) (cuts (now (t .entry)))) r ⌝ }
 {
+    if 1058817 <= at {
+        return at;
+    }
     let mut i: usize = 0;
     let mut o: u32 = at;
     while i < t.len() {

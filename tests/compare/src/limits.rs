@@ -18,6 +18,8 @@ pub fn all() -> Vec<Case> {
     counts(&mut list);
     groups(&mut list);
     totals(&mut list);
+    long_texts(&mut list);
+    headings(&mut list);
     list
 }
 
@@ -218,6 +220,78 @@ fn totals(list: &mut Vec<Case>) {
                 x(length(2))
             );
             list.push(Case::text(&rules, ["pc", "us", "", ""], room));
+        }
+    }
+}
+
+/// Rules of a set whose additions to one component make this length.
+fn additions(component: &str, length: usize) -> String {
+    let mut rules = format!("! option = {component}\n");
+    let mut left = length;
+    while left > 0 {
+        let piece = left.min(200);
+        rules += &format!("* = +{}\n", x(piece - 1));
+        left -= piece;
+    }
+    rules
+}
+
+/// Texts around 1,024 bytes, and around its multiples: a resolve keeps texts up to this length in a region of their own until their lengths are known.
+fn long_texts(list: &mut Vec<Case>) {
+    let model = "m".repeat(64);
+    let short = "! model = keycodes types compat symbols geometry\n* = k t c s g\n";
+    let more = "! option = keycodes types compat symbols geometry\n* = +k |t +c |s +g\n";
+    for component in ["keycodes", "types", "compat", "symbols", "geometry"] {
+        for length in [
+            1, 1022, 1023, 1024, 1025, 1026, 2047, 2048, 2049, 8192, 10_239, 10_240, 10_241, 20_000,
+        ] {
+            let added = additions(component, length);
+            let base = format!(
+                "! model = {component}\n* = {}{}\n",
+                "%m".repeat((length / 64).min(120)),
+                x(length % 64 + 1)
+            );
+            for rules in [
+                added.clone(),
+                format!("{short}{added}"),
+                format!("{added}{short}"),
+                format!("{short}{added}{more}"),
+                format!("{base}{short}"),
+                format!("{base}{added}{more}"),
+                format!("{}{}", added, additions("symbols", 1024)),
+            ] {
+                let total = Case::text(&rules, [&model, "us", "", ""], TOTAL)
+                    .second()
+                    .total();
+                for room in [0, total.saturating_sub(1), total, total + 1, TOTAL] {
+                    list.push(Case::text(&rules, [&model, "us", "", ""], room));
+                }
+            }
+        }
+    }
+}
+
+/// More and more headings, among them groups that later sets ask for: those up to the 128th are listed by the check.
+fn headings(list: &mut Vec<Case>) {
+    for count in [1, 2, 63, 126, 127, 128, 129, 130, 131, 200, 300] {
+        let mut plain = String::new();
+        let mut mixed = String::from("// a file\n\n");
+        let mut sparse = String::new();
+        let mut last = 0;
+        for i in 0..count {
+            plain += &format!("! option = symbols\n* = +a{i}\n");
+            sparse += &format!("! layout[{}] = symbols\n* = +a{i}\n", i % 4 + 1);
+            if i % 4 == 0 && i < 240 {
+                mixed += &format!(" \\\n! $g{i} = o \\\n us x{i} // g\n");
+                last = i;
+            } else {
+                mixed += &format!("!layout[any] option = types symbols // h\n$g{last} o = +t{i} +s%i\n\n* $g{last} = |u +%l[%i]\n");
+            }
+        }
+        for rules in [&plain, &mixed, &sparse] {
+            for layouts in ["us", "us,x4,fr", "a,b,c,us"] {
+                list.push(Case::text(rules, ["pc", layouts, "", "o,p"], FILE));
+            }
         }
     }
 }

@@ -15,10 +15,10 @@ use Rattle.firing.proofs.rule.fire_value.Reads as fire-value-reads
 use Rattle.rules.proofs.sets.word.Reads as word-reads
 
 abbrev Inv-loop : tie.InvT-loop
-Inv-loop w places from count model layouts variants n k scratch₀ buf₀ components m₀ j₀ scratch buf m j = RuleGoing (profileOf (textsOf model layouts variants [])) buf₀ m₀ k components (wordsOf w) from count buf m j × (length scratch ≡ length scratch₀) × (length buf ≡ length buf₀)
+Inv-loop w places from count model layouts variants bounds n k scratch₀ buf₀ components m₀ j₀ scratch buf m j = RuleGoing (profileOf (textsOf model layouts variants [])) buf₀ m₀ k components (wordsOf w) from count buf m j × (length scratch ≡ length scratch₀) × (length buf ≡ length buf₀)
 
 abbrev μ-loop : tie.MeasureT-loop
-μ-loop w places from count model layouts variants n k scratch₀ buf₀ components m₀ j₀ scratch buf m j = count - j
+μ-loop w places from count model layouts variants bounds n k scratch₀ buf₀ components m₀ j₀ scratch buf m j = count - j
 
 loop-holds : tie.Need-loop-holds Inv-loop μ-loop
 loop-holds c = (rule-start _ _ _ _ _ _ _ _ (c .before .before .before .before .before .before .before .good .1 .1 .1 .1 .0 .1 .0 .1) (c .before .before .before .before .before .before .before .pre .4) (c .before .before .before .before .before .before .before .pre .1) (c .before .before .before .before .before .before .before .pre .2) (c .before .before .before .before .before .before .before .pre .14), refl, refl)
@@ -36,7 +36,7 @@ array-read-fire-value : tie.Need-array-read-fire-value Inv-loop μ-loop
 array-read-fire-value c = omega (arith, c .before .before .before .before .before .before .before .before .before .before .pre .4, c .before .before .loop .inv .0 .low, c .before .loop-test .taken)
 
 fire-value-requires : tie.Need-fire-value-requires Inv-loop μ-loop
-fire-value-requires c κs = (c .before .before .before .before .before .before .before .before .before .before .before .before .pre .6, c .before .before .before .before .before .before .before .before .before .before .before .before .pre .7, c .before .before .before .before .before .before .before .before .before .before .before .before .pre .8, c .before .before .before .before .before .before .before .before .before .before .before .before .pre .9, c .before .before .before .before .before .before .before .before .before .before .before .before .pre .10, omega (arith, word-room (wordsOf (c .before .before .before .before .before .before .before .before .before .before .before .before .args .w .now)) (c .before .before .before .before .loop .j) (c .before .before .before .before .before .before .before .before .before .before .before .before .pre .5) (omega (arith, c .before .before .before .before .before .before .before .before .before .before .before .before .pre .1)), ap length (c .before .before .word .ensures), c .before .before .before .before .loop .inv .1, c .before .before .before .before .before .before .before .before .before .before .before .before .pre .11), omega (arith, c .before .before .before .before .loop .inv .1, c .before .before .before .before .before .before .before .before .before .before .before .before .pre .12), omega (arith, c .before .before .before .before .loop .inv .2, c .before .before .before .before .before .before .before .before .before .before .before .before .pre .13), c .before .before .before .before .loop .inv .0 .going 0 .low)
+fire-value-requires c κs = (c .before .before .before .before .before .before .before .before .before .before .before .before .pre .6, c .before .before .before .before .before .before .before .before .before .before .before .before .pre .7, c .before .before .before .before .before .before .before .before .before .before .before .before .pre .8, c .before .before .before .before .before .before .before .before .before .before .before .before .pre .9, c .before .before .before .before .before .before .before .before .before .before .before .before .pre .10, omega (arith, word-room (wordsOf (c .before .before .before .before .before .before .before .before .before .before .before .before .args .w .now)) (c .before .before .before .before .loop .j) (c .before .before .before .before .before .before .before .before .before .before .before .before .pre .5) (omega (arith, c .before .before .before .before .before .before .before .before .before .before .before .before .pre .1)), ap length (c .before .before .word .ensures), c .before .before .before .before .loop .inv .1, c .before .before .before .before .before .before .before .before .before .before .before .before .pre .11), omega (arith, c .before .before .before .before .loop .inv .1, c .before .before .before .before .before .before .before .before .before .before .before .before .pre .12), omega (arith, c .before .before .before .before .loop .inv .2, c .before .before .before .before .before .before .before .before .before .before .before .before .pre .13), c .before .before .before .before .loop .inv .0 .going 0 .low, c .before .before .before .before .before .before .before .before .before .before .before .before .pre .15)
 
 add-j : tie.Need-add-j Inv-loop μ-loop
 add-j c = search needs
@@ -45,7 +45,7 @@ loop-less : tie.Need-loop-less Inv-loop μ-loop
 loop-less c = search needs
 
 loop-again : tie.Need-loop-again Inv-loop μ-loop
-loop-again c = (rule-more _ _ _ _ _ _ _ _ (c .before .before .before .before .before .before .before .before .before .before .before .before .before .before .before .before .before .good .1 .1 .1 .1 .0 .1 .0 .1) (c .before .before .before .before .before .before .before .before .before .before .before .before .before .before .before .before .before .pre .4) (c .before .before .before .before .before .before .before .before .before .before .before .before .before .before .before .before .before .pre .1) _ _ _ (c .before .before .before .before .before .before .before .before .before .loop .inv .0) _ _ (c .before .before .before .before .before .before .before .before .loop-test .taken) (rw (c .before .before .before .before .before .before .before .word .ensures) at (c .before .before .before .before .fire-value .ensures)), c .before .before .before .before .fire-value .kept .1 .1 .1 .1 .1 .1 .1 .0 ∙ c .before .before .before .before .before .before .before .before .before .loop .inv .1, c .before .before .before .before .fire-value .kept .1 .1 .1 .1 .1 .1 .1 .1 .0 ∙ c .before .before .before .before .before .before .before .before .before .loop .inv .2)
+loop-again c = (rule-more _ _ _ _ _ _ _ _ (c .before .before .before .before .before .before .before .before .before .before .before .before .before .before .before .before .before .good .1 .1 .1 .1 .0 .1 .0 .1) (c .before .before .before .before .before .before .before .before .before .before .before .before .before .before .before .before .before .pre .4) (c .before .before .before .before .before .before .before .before .before .before .before .before .before .before .before .before .before .pre .1) _ _ _ (c .before .before .before .before .before .before .before .before .before .loop .inv .0) _ _ (c .before .before .before .before .before .before .before .before .loop-test .taken) (rw (c .before .before .before .before .before .before .before .word .ensures) at (c .before .before .before .before .fire-value .ensures)), c .before .before .before .before .fire-value .kept .1 .1 .1 .1 .1 .1 .1 .1 .0 ∙ c .before .before .before .before .before .before .before .before .before .loop .inv .1, c .before .before .before .before .fire-value .kept .1 .1 .1 .1 .1 .1 .1 .1 .1 .0 ∙ c .before .before .before .before .before .before .before .before .before .loop .inv .2)
 
 same-length : tie.Need-same-length Inv-loop μ-loop
 same-length c = search needs

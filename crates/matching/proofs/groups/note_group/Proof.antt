@@ -1,11 +1,7 @@
 use borrow.Author.Needs.{needs}
-use native.Mathlib.Omega.{arith}
-use mathlib.Core.Path.{_≡_, refl, sym, ap, _∙_}
-use Rattle.matching.proofs.Noting.{noted}
-use borrow.Author.Needs.{needs}
 use Rattle.matching.proofs.groups.note_group.Statement.{statement}
 use Rattle.matching.proofs.groups.note_group.Tie as tie
-use Rattle.matching.proofs.groups.fill_row.Reads as fill-row-reads
+use Rattle.matching.proofs.Noting.{noted}
 
 mul-names : tie.Need-mul-names
 mul-names c = search needs
@@ -32,7 +28,7 @@ fill-row-requires : tie.Need-fill-row-requires
 fill-row-requires c κs = search needs
 
 returns : tie.Need-returns
-returns c = noted _ _ _ _ _ (c .before .before .before .before .before .before .before .pre .4) (c .before .before .before .before .before .before .before .pre .7) _ _ _ (c .before .before .before .before .before .before .before .pre .2) (c .before .before .before .before .before .before .before .pre .3) (c .before .before .before .before .before .before .before .pre .8) (c .fill-row .ensures)
+returns c = (noted _ _ _ _ _ (c .before .before .before .before .before .before .before .pre .5) (c .before .before .before .before .before .before .before .pre .8) _ _ _ (c .before .before .before .before .before .before .before .pre .2) (c .before .before .before .before .before .before .before .pre .3) (c .before .before .before .before .before .before .before .pre .9) (c .fill-row .ensures .0), c .fill-row .ensures .1)
 
 pub note-group-spec : {M : Type 1} → statement M
 note-group-spec =

@@ -6,13 +6,16 @@ use mathlib.Core.Path.{refl, ap}
 use Rattle.text.proofs.Entries.{entries, table-right}
 use Rattle.profile.proofs.Counts.{few-options}
 use Rattle.firing.specs.declared.Cursors.{Cursors}
-use Rattle.resolver.proofs.Resolves.{short, some-layouts, few-layouts}
+use Rattle.resolver.proofs.Resolves.{short, some-layouts, few-layouts, few-fields}
 
 list-options-requires : tie.Need-list-options-requires
 list-options-requires c κs = search needs
 
 field-count-requires : tie.Need-field-count-requires
 field-count-requires c κs = search needs
+
+list-fields-requires : tie.Need-list-fields-requires
+list-fields-requires c κs = (refl, few-fields _ _ _ _ (c .before .before .before .before .before .before .before .before .before .before .pre .0) .0, few-fields _ _ _ _ (c .before .before .before .before .before .before .before .before .before .before .pre .0) .1)
 
 fence-of-requires : tie.Need-fence-of-requires
 fence-of-requires c κs = search needs
@@ -25,7 +28,7 @@ slice-aggregate-walk-2 c = search needs
 
 walk-requires : tie.Need-walk-requires
 unfolding entries
-walk-requires c κs = (table-right, c .before .before .before .before .before .before .before .fence-of .ensures, refl, refl, refl, c .before .before .before .before .before .before .before .before .before .list-options .ensures, few-options _ (c .before .before .before .before .before .before .before .before .before .before .before .before .before .before .before .before .before .pre .0), c .before .before .before .before .before .before .before .before .field-count .ensures, some-layouts _ _ (c .before .before .before .before .before .before .before .before .field-count .ensures), few-layouts _ _ _ _ _ (c .before .before .before .before .before .before .before .before .before .before .before .before .before .before .before .before .before .pre .0) (c .before .before .before .before .before .before .before .before .field-count .ensures), short _ _ _ _ (c .before .before .before .before .before .before .before .before .before .before .before .before .before .before .before .before .before .pre .0), omega arith, omega arith, c .before .before .before .before .before .before .before .before .before .before .before .before .before .before .before .before .before .pre .2, c .before .before .before .before .before .before .before .before .before .before .before .before .before .before .before .before .before .pre .3, c .before .before .before .before .before .before .before .before .before .before .before .before .before .before .before .before .before .pre .1, c .before .before .before .before .before .before .before .before .before .before .before .before .before .before .before .before .before .pre .4)
+walk-requires c κs = (table-right, c .before .before .before .before .before .before .before .before .fence-of .ensures, refl, refl, refl, c .before .before .before .before .before .before .before .before .before .before .before .before .list-options .ensures, few-options _ (c .before .before .before .before .before .before .before .before .before .before .before .before .before .before .before .before .before .before .before .before .pre .0), c .before .before .before .before .before .before .before .before .before .before .before .field-count .ensures, some-layouts _ _ (c .before .before .before .before .before .before .before .before .before .before .before .field-count .ensures), few-layouts _ _ _ _ _ (c .before .before .before .before .before .before .before .before .before .before .before .before .before .before .before .before .before .before .before .before .pre .0) (c .before .before .before .before .before .before .before .before .before .before .before .field-count .ensures), short _ _ _ _ (c .before .before .before .before .before .before .before .before .before .before .before .before .before .before .before .before .before .before .before .before .pre .0), omega arith, omega arith, c .before .before .before .before .before .before .before .before .before .before .before .before .before .before .before .before .before .before .before .before .pre .2, c .before .before .before .before .before .before .before .before .before .before .before .before .before .before .before .before .before .before .before .before .pre .3, c .before .before .before .before .before .before .before .before .before .before .before .before .before .before .before .before .before .before .before .before .pre .1, c .before .before .before .before .before .before .before .before .before .before .before .before .before .before .before .before .before .before .before .before .pre .4, c .before .before .before .before .before .before .before .before .before .list-fields .ensures)
 
 same-length : tie.Need-same-length
 same-length c = search needs
@@ -39,6 +42,7 @@ fire-file-spec =
     (tie.spec
     list-options-requires
     field-count-requires
+    list-fields-requires
     fence-of-requires
     slice-aggregate-walk
     slice-aggregate-walk-2

@@ -20,7 +20,7 @@ has-options-requires : tie.Need-has-options-requires
 has-options-requires c κs = search needs
 
 run-layouts-requires : tie.Need-run-layouts-requires
-run-layouts-requires c κs = (c .before .before .before .before .before .before .before .before .before .before .before .before .before .before .before .pre .0, c .before .before .before .before .before .before .before .before .before .before .before .before .before .before .before .pre .1, c .before .before .before .before .before .before .before .before .before .before .before .before .before .before .before .pre .2, c .before .before .before .before .before .before .before .before .before .before .before .before .before .before .before .pre .3, c .before .before .before .before .before .before .before .before .before .before .before .before .before .before .before .pre .4, c .before .before .before .before .before .before .before .before .before .before .before .before .before .before .before .pre .5, c .before .before .before .before .before .before .before .before .before .before .before .before .before .before .before .pre .7, c .before .before .before .before .before .before .before .before .before .before .before .before .before .before .before .pre .8, c .before .before .before .before .before .before .before .before .before .before .before .before .before .before .before .pre .9, c .before .before .before .before .before .before .before .before .before .before .before .before .before .before .before .pre .10, omega (arith, c .before .before .before .before .before .before .before .before .before .before .before .before .before .before .before .pre .11), range-low _ _ _ (c .before .before .before .before .before .before .layout-range .ensures) (c .before .before .before .before .before .before .before .before .before .before .before .before .before .before .before .pre .6) (c .before .before .before .before .before .before .before .before .before .before .before .before .before .before .before .pre .10) (c .before .before .before .before .before .before .before .before .before .before .before .before .before .before .before .pre .11) (omega (arith, c .before .before .before .before .if1 .left)), range-first _ _ _ (c .before .before .before .before .before .before .layout-range .ensures) (c .before .before .before .before .before .before .before .before .before .before .before .before .before .before .before .pre .6) (c .before .before .before .before .before .before .before .before .before .before .before .before .before .before .before .pre .10) (c .before .before .before .before .before .before .before .before .before .before .before .before .before .before .before .pre .11) (omega (arith, c .before .before .before .before .if1 .left)), c .before .before .before .before .before .before .before .before .before .before .before .before .before .before .before .pre .12, c .before .before .before .before .before .before .before .before .before .before .before .before .before .before .before .pre .13, c .before .before .before .before .before .before .before .before .before .before .before .before .before .before .before .pre .14, c .before .before .before .before .before .before .before .before .before .before .before .before .before .before .before .pre .15, c .before .before .before .before .before .before .before .before .before .before .before .before .before .before .before .pre .16, c .before .before .before .before .before .before .before .before .before .before .before .before .before .before .before .pre .17, c .before .before .before .before .before .before .before .before .before .before .before .before .before .before .before .pre .18, c .before .before .before .before .before .before .before .before .before .before .before .before .before .before .before .pre .19)
+run-layouts-requires c κs = (c .before .before .before .before .before .before .before .before .before .before .before .before .before .before .before .pre .0, c .before .before .before .before .before .before .before .before .before .before .before .before .before .before .before .pre .1, c .before .before .before .before .before .before .before .before .before .before .before .before .before .before .before .pre .2, c .before .before .before .before .before .before .before .before .before .before .before .before .before .before .before .pre .3, c .before .before .before .before .before .before .before .before .before .before .before .before .before .before .before .pre .4, c .before .before .before .before .before .before .before .before .before .before .before .before .before .before .before .pre .5, c .before .before .before .before .before .before .before .before .before .before .before .before .before .before .before .pre .7, c .before .before .before .before .before .before .before .before .before .before .before .before .before .before .before .pre .8, c .before .before .before .before .before .before .before .before .before .before .before .before .before .before .before .pre .9, c .before .before .before .before .before .before .before .before .before .before .before .before .before .before .before .pre .10, omega (arith, c .before .before .before .before .before .before .before .before .before .before .before .before .before .before .before .pre .11), range-low _ _ _ (c .before .before .before .before .before .before .layout-range .ensures) (c .before .before .before .before .before .before .before .before .before .before .before .before .before .before .before .pre .6) (c .before .before .before .before .before .before .before .before .before .before .before .before .before .before .before .pre .10) (c .before .before .before .before .before .before .before .before .before .before .before .before .before .before .before .pre .11) (omega (arith, c .before .before .before .before .if1 .left)), range-first _ _ _ (c .before .before .before .before .before .before .layout-range .ensures) (c .before .before .before .before .before .before .before .before .before .before .before .before .before .before .before .pre .6) (c .before .before .before .before .before .before .before .before .before .before .before .before .before .before .before .pre .10) (c .before .before .before .before .before .before .before .before .before .before .before .before .before .before .before .pre .11) (omega (arith, c .before .before .before .before .if1 .left)), c .before .before .before .before .before .before .before .before .before .before .before .before .before .before .before .pre .12, c .before .before .before .before .before .before .before .before .before .before .before .before .before .before .before .pre .13, c .before .before .before .before .before .before .before .before .before .before .before .before .before .before .before .pre .14, c .before .before .before .before .before .before .before .before .before .before .before .before .before .before .before .pre .15, c .before .before .before .before .before .before .before .before .before .before .before .before .before .before .before .pre .16, c .before .before .before .before .before .before .before .before .before .before .before .before .before .before .before .pre .17, c .before .before .before .before .before .before .before .before .before .before .before .before .before .before .before .pre .18, c .before .before .before .before .before .before .before .before .before .before .before .before .before .before .before .pre .19, c .before .before .before .before .before .before .before .before .before .before .before .before .before .before .before .pre .20)
 
 same-length : tie.Need-same-length
 same-length c = search needs

@@ -12,10 +12,10 @@ use Rattle.resolver.proofs.HeadsFound.{head-start, head-next, fewer-lef
 use Rattle.resolver.proofs.FileWalks.{WalkGoing, walk-start, walk-on, walk-more, walk-none, walk-end}
 
 abbrev Inv-loop : tie.InvT-loop
-Inv-loop s t fence heads count places₀ names₀ rows₀ model layouts variants options table listed n scratch₀ buf₀ at₀ k₀ w₀ places names rows scratch buf at k w = WalkGoing (profileOf (textsOf model layouts variants options)) s buf₀ (w₀ .cursors) names rows buf w × (at ≡ w .progress .at) × (length places ≡ 20) × (length scratch ≡ length scratch₀) × NextHead s count k at (w .progress .line)
+Inv-loop s t fence heads count places₀ names₀ rows₀ model layouts variants bounds options table listed n scratch₀ buf₀ at₀ k₀ w₀ places names rows scratch buf at k w = WalkGoing (profileOf (textsOf model layouts variants options)) s buf₀ (w₀ .cursors) names rows buf w × (at ≡ w .progress .at) × (length places ≡ 20) × (length scratch ≡ length scratch₀) × NextHead s count k at (w .progress .line)
 
 abbrev μ-loop : tie.MeasureT-loop
-μ-loop s t fence heads count places₀ names₀ rows₀ model layouts variants options table listed n scratch₀ buf₀ at₀ k₀ w₀ places names rows scratch buf at k w = length (follow s at (w .progress .line))
+μ-loop s t fence heads count places₀ names₀ rows₀ model layouts variants bounds options table listed n scratch₀ buf₀ at₀ k₀ w₀ places names rows scratch buf at k w = length (follow s at (w .progress .line))
 
 loop-holds : tie.Need-loop-holds Inv-loop μ-loop
 loop-holds c = (walk-start _ _ _ _ _ _ (c .before .before .before .before .before .before .before .before .pre .3) (c .before .before .before .before .before .before .before .before .pre .4) (c .before .before .before .before .before .before .before .before .pre .15) (c .before .before .before .before .before .before .before .before .pre .14), refl, c .before .before .before .before .before .before .before .before .pre .2, refl, head-start _ _)
@@ -37,7 +37,7 @@ returns c = walk-none _ _ _ _ _ _ _ _ (c .before .before .before .before .before
 
 walk-heading-requires : tie.Need-walk-heading-requires Inv-loop μ-loop
 walk-heading-requires c κs = let v = walk-on _ _ _ _ _ _ _ _ (c .before .before .before .before .before .before .before .before .before .before .before .before .loop .inv .0) _ (c .before .before .before .before .before .before .before .before .before .before .before .before .loop .inv .1) _ (c .before .before .before .before .before .before .before .before .before .find-heading .ensures .0) in
-    (c .before .before .before .before .before .before .before .before .before .before .before .before .before .before .before .before .before .before .before .before .before .pre .0, c .before .before .before .before .before .before .before .before .before .before .before .before .before .before .before .before .before .before .before .before .before .pre .1, c .before .before .before .before .before .before .before .before .before .before .before .before .loop .inv .2, v .ready, v .rowed, c .before .before .before .before .before .before .before .before .before .before .before .before .before .before .before .before .before .before .before .before .before .pre .5, c .before .before .before .before .before .before .before .before .before .before .before .before .before .before .before .before .before .before .before .before .before .pre .6, c .before .before .before .before .before .before .before .before .before .before .before .before .before .before .before .before .before .before .before .before .before .pre .7, c .before .before .before .before .before .before .before .before .before .before .before .before .before .before .before .before .before .before .before .before .before .pre .8, c .before .before .before .before .before .before .before .before .before .before .before .before .before .before .before .before .before .before .before .before .before .pre .9, c .before .before .before .before .before .before .before .before .before .before .before .before .before .before .before .before .before .before .before .before .before .pre .10, omega (arith, c .before .before .before .before .before .before .before .before .before .before .before .before .loop .inv .3, c .before .before .before .before .before .before .before .before .before .before .before .before .before .before .before .before .before .before .before .before .before .pre .11), omega (arith, c .before .before .before .before .before .before .before .before .before .before .before .before .loop .inv .3, c .before .before .before .before .before .before .before .before .before .before .before .before .before .before .before .before .before .before .before .before .before .pre .12), omega (arith, v .going .long, c .before .before .before .before .before .before .before .before .before .before .before .before .before .before .before .before .before .before .before .before .before .pre .13), v .going .low, (c .before .before .before .before .before .before .before .before .before .find-heading .ensures .0 .opens (not-false _ (c .before .before .before .before .before .before .before .if1 .left))) .0, v .clean, (c .before .before .before .before .before .before .before .before .before .find-heading .ensures .0 .opens (not-false _ (c .before .before .before .before .before .before .before .if1 .left))) .1)
+    (c .before .before .before .before .before .before .before .before .before .before .before .before .before .before .before .before .before .before .before .before .before .pre .0, c .before .before .before .before .before .before .before .before .before .before .before .before .before .before .before .before .before .before .before .before .before .pre .1, c .before .before .before .before .before .before .before .before .before .before .before .before .loop .inv .2, v .ready, v .rowed, c .before .before .before .before .before .before .before .before .before .before .before .before .before .before .before .before .before .before .before .before .before .pre .5, c .before .before .before .before .before .before .before .before .before .before .before .before .before .before .before .before .before .before .before .before .before .pre .6, c .before .before .before .before .before .before .before .before .before .before .before .before .before .before .before .before .before .before .before .before .before .pre .7, c .before .before .before .before .before .before .before .before .before .before .before .before .before .before .before .before .before .before .before .before .before .pre .8, c .before .before .before .before .before .before .before .before .before .before .before .before .before .before .before .before .before .before .before .before .before .pre .9, c .before .before .before .before .before .before .before .before .before .before .before .before .before .before .before .before .before .before .before .before .before .pre .10, omega (arith, c .before .before .before .before .before .before .before .before .before .before .before .before .loop .inv .3, c .before .before .before .before .before .before .before .before .before .before .before .before .before .before .before .before .before .before .before .before .before .pre .11), omega (arith, c .before .before .before .before .before .before .before .before .before .before .before .before .loop .inv .3, c .before .before .before .before .before .before .before .before .before .before .before .before .before .before .before .before .before .before .before .before .before .pre .12), omega (arith, v .going .long, c .before .before .before .before .before .before .before .before .before .before .before .before .before .before .before .before .before .before .before .before .before .pre .13), v .going .low, (c .before .before .before .before .before .before .before .before .before .find-heading .ensures .0 .opens (not-false _ (c .before .before .before .before .before .before .before .if1 .left))) .0, v .clean, (c .before .before .before .before .before .before .before .before .before .find-heading .ensures .0 .opens (not-false _ (c .before .before .before .before .before .before .before .if1 .left))) .1, c .before .before .before .before .before .before .before .before .before .before .before .before .before .before .before .before .before .before .before .before .before .pre .17)
 
 number-after-requires : tie.Need-number-after-requires Inv-loop μ-loop
 number-after-requires c κs = search needs
@@ -47,7 +47,7 @@ loop-less c = let o = c .before .before .before .before .before .before .before 
 
 loop-again : tie.Need-loop-again Inv-loop μ-loop
 loop-again c = let v = walk-on _ _ _ _ _ _ _ _ (c .before .before .before .before .before .before .before .before .before .before .before .before .before .before .before .before .before .before .before .before .before .loop .inv .0) _ (c .before .before .before .before .before .before .before .before .before .before .before .before .before .before .before .before .before .before .before .before .before .loop .inv .1) _ (c .before .before .before .before .before .before .before .before .before .before .before .before .before .before .before .before .before .before .find-heading .ensures .0) in
-    (walk-more _ _ _ _ _ _ _ _ v _ _ _ _ (c .before .before .before .before .before .before .before .before .walk-heading .ensures), refl, c .before .before .before .before .before .before .before .before .walk-heading .kept .1 .1 .1 .0 ∙ c .before .before .before .before .before .before .before .before .before .before .before .before .before .before .before .before .before .before .before .before .before .loop .inv .2, c .before .before .before .before .before .before .before .before .walk-heading .kept .1 .1 .1 .1 .1 .1 .1 .1 .1 .1 .1 .1 .1 .0 ∙ c .before .before .before .before .before .before .before .before .before .before .before .before .before .before .before .before .before .before .before .before .before .loop .inv .3, head-next _ _ _ _ (c .before .before .before .before .before .before .before .before .before .before .before .before .before .before .before .before .before .before .find-heading .ensures .1) (not-false _ (c .before .before .before .before .before .before .before .before .before .before .before .before .before .before .before .before .if1 .left)) _ _ _ (c .before .before .before .before .before .before .before .before .walk-heading .ensures .onward .words) (c .before .before .before .before .before .before .before .before .walk-heading .ensures .onward .read) _ (c .number-after .ensures))
+    (walk-more _ _ _ _ _ _ _ _ v _ _ _ _ (c .before .before .before .before .before .before .before .before .walk-heading .ensures), refl, c .before .before .before .before .before .before .before .before .walk-heading .kept .1 .1 .1 .0 ∙ c .before .before .before .before .before .before .before .before .before .before .before .before .before .before .before .before .before .before .before .before .before .loop .inv .2, c .before .before .before .before .before .before .before .before .walk-heading .kept .1 .1 .1 .1 .1 .1 .1 .1 .1 .1 .1 .1 .1 .1 .0 ∙ c .before .before .before .before .before .before .before .before .before .before .before .before .before .before .before .before .before .before .before .before .before .loop .inv .3, head-next _ _ _ _ (c .before .before .before .before .before .before .before .before .before .before .before .before .before .before .before .before .before .before .find-heading .ensures .1) (not-false _ (c .before .before .before .before .before .before .before .before .before .before .before .before .before .before .before .before .if1 .left)) _ _ _ (c .before .before .before .before .before .before .before .before .walk-heading .ensures .onward .words) (c .before .before .before .before .before .before .before .before .walk-heading .ensures .onward .read) _ (c .number-after .ensures))
 
 same-length-4 : tie.Need-same-length-4 Inv-loop μ-loop
 same-length-4 c = search needs

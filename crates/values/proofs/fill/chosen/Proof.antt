@@ -6,11 +6,11 @@ use Rattle.values.proofs.fill.chosen.Tie as tie
 enum-told : tie.Need-enum-told
 enum-told c = search needs
 
-field-requires : tie.Need-field-requires
-field-requires c κs = search needs
+field-at-requires : tie.Need-field-at-requires
+field-at-requires c κs = search needs
 
 returns : tie.Need-returns
-returns c = alone-one _ _ _ _ (c .before .before .enum-told .given .1) (c .before .if1 .taken) _ (c .field .ensures)
+returns c = alone-one _ _ _ _ (c .before .before .enum-told .given .1) (c .before .if1 .taken) _ (c .field-at .ensures)
 
 sub-result : tie.Need-sub-result
 sub-result c = search needs
@@ -27,8 +27,8 @@ enum-told-2 c = search needs
 place-requires : tie.Need-place-requires
 place-requires c κs = search needs
 
-field-requires-2 : tie.Need-field-requires-2
-field-requires-2 c κs = search needs
+field-at-requires-2 : tie.Need-field-at-requires-2
+field-at-requires-2 c κs = search needs
 
 enum-known-x : tie.Need-enum-known-x
 enum-known-x c = search needs
@@ -60,8 +60,8 @@ returns-3 c = numbered-beyond _ _ _ _ _ (c .before .before .before .before .x .g
 place-requires-2 : tie.Need-place-requires-2
 place-requires-2 c κs = search needs
 
-field-requires-3 : tie.Need-field-requires-3
-field-requires-3 c κs = search needs
+field-at-requires-3 : tie.Need-field-at-requires-3
+field-at-requires-3 c κs = search needs
 
 enum-told-3 : tie.Need-enum-told-3
 enum-told-3 c = search needs
@@ -79,10 +79,10 @@ returns-4 : tie.Need-returns-4
 returns-4 c = alone-none _ _ _ _ (c .before .before .enum-told .given .1) (c .before .if1 .left)
 
 returns-5 : tie.Need-returns-5
-returns-5 c = matched _ _ _ _ (c .before .before .enum-told2 .given .1) _ (c .before .place .ensures) _ (c .field2 .ensures)
+returns-5 c = matched _ _ _ _ (c .before .before .enum-told2 .given .1) _ (c .before .place .ensures) _ (c .field-at2 .ensures)
 
 returns-6 : tie.Need-returns-6
-returns-6 c = numbered-one _ _ _ _ _ (c .before .before .before .before .before .x .given .1) (c .before .before .before .if2 .left) (c .before .before .if3 .left) _ (c .before .place2 .ensures) _ (c .field3 .ensures)
+returns-6 c = numbered-one _ _ _ _ _ (c .before .before .before .before .before .x .given .1) (c .before .before .before .if2 .left) (c .before .before .if3 .left) _ (c .before .place2 .ensures) _ (c .field-at3 .ensures)
 
 returns-7 : tie.Need-returns-7
 returns-7 c = wrong-none _ _ _ _ (c .before .enum-told3 .given .1)
@@ -92,14 +92,14 @@ chosen-spec =
     tie.close
     (tie.spec
     enum-told
-    field-requires
+    field-at-requires
     returns
     sub-result
     part-result-start
     part-result-end
     enum-told-2
     place-requires
-    field-requires-2
+    field-at-requires-2
     enum-known-x
     sub-result-2
     part-result-start-2
@@ -110,7 +110,7 @@ chosen-spec =
     part-result-end-3
     returns-3
     place-requires-2
-    field-requires-3
+    field-at-requires-3
     enum-told-3
     sub-result-4
     part-result-start-4

@@ -9,10 +9,10 @@ use Rattle.values.proofs.fill.fill_value.Statement.{statement}
 use Rattle.values.proofs.fill.fill_value.Tie as tie
 
 abbrev Inv-loop : tie.InvT-loop
-Inv-loop w model layouts variants n k scratch₀ i₀ o₀ scratch i o = Going (profileOf (textsOf model layouts variants [])) k w scratch₀ scratch i o
+Inv-loop w model layouts variants bounds n k scratch₀ i₀ o₀ scratch i o = Going (profileOf (textsOf model layouts variants [])) k w scratch₀ scratch i o
 
 abbrev μ-loop : tie.MeasureT-loop
-μ-loop w model layouts variants n k scratch₀ i₀ o₀ scratch i o = length w - i
+μ-loop w model layouts variants bounds n k scratch₀ i₀ o₀ scratch i o = length w - i
 
 loop-holds : tie.Need-loop-holds Inv-loop μ-loop
 loop-holds c = going-start _ _ _ _ (c .before .before .before .before .before .pre .4)
@@ -36,7 +36,7 @@ piece-after-requires : tie.Need-piece-after-requires Inv-loop μ-loop
 piece-after-requires c κs = search needs
 
 put-piece-requires : tie.Need-put-piece-requires Inv-loop μ-loop
-put-piece-requires c κs = (c .before .before .before .before .before .before .before .before .before .before .before .pre .0, c .before .before .before .before .before .before .before .before .before .before .before .pre .1, omega (arith, c .before .before .before .before .before .loop .inv .left .long, c .before .before .before .before .before .before .before .before .before .before .before .pre .4), c .before .before .before .before .before .loop .inv .left .low)
+put-piece-requires c κs = (c .before .before .before .before .before .before .before .before .before .before .before .pre .0, c .before .before .before .before .before .before .before .before .before .before .before .pre .1, omega (arith, c .before .before .before .before .before .loop .inv .left .long, c .before .before .before .before .before .before .before .before .before .before .before .pre .4), c .before .before .before .before .before .loop .inv .left .low, c .before .before .before .before .before .before .before .before .before .before .before .pre .5)
 
 piece-length-requires : tie.Need-piece-length-requires Inv-loop μ-loop
 piece-length-requires c κs = search needs

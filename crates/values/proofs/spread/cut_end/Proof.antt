@@ -1,10 +1,11 @@
 use borrow.Author.Needs.{needs}
+use Rattle.values.proofs.spread.cut_end.Statement.{statement}
+use Rattle.values.proofs.spread.cut_end.Tie as tie
 use Prim.Native.Nat.{_-_}
 use lib.ListN.{length}
 use mathlib.Core.Path.{sym, _∙_}
-use Rattle.values.proofs.Cuts.{InCut, in-cut-start, in-cut-more, in-cut-sign, in-cut-end}
-use Rattle.values.proofs.spread.cut_end.Statement.{statement}
-use Rattle.values.proofs.spread.cut_end.Tie as tie
+use Rattle.values.specs.Cutting.{InCut}
+use Rattle.values.proofs.Cuts.{in-cut-more, in-cut-sign, in-cut-end}
 
 abbrev Inv-loop : tie.InvT-loop
 Inv-loop t from i₀ i = InCut t from i
@@ -12,8 +13,11 @@ Inv-loop t from i₀ i = InCut t from i
 abbrev μ-loop : tie.MeasureT-loop
 μ-loop t from i₀ i = length t - i
 
+pass-plain-requires : tie.Need-pass-plain-requires Inv-loop μ-loop
+pass-plain-requires c κs = search needs
+
 loop-holds : tie.Need-loop-holds Inv-loop μ-loop
-loop-holds c = in-cut-start _ _ (c .before .pre)
+loop-holds c = c .pass-plain .ensures
 
 shared-slice-read-is-sign : tie.Need-shared-slice-read-is-sign Inv-loop μ-loop
 shared-slice-read-is-sign c = search needs
@@ -42,6 +46,7 @@ cut-end-spec =
     (tie.spec
     Inv-loop
     μ-loop
+    pass-plain-requires
     loop-holds
     shared-slice-read-is-sign
     is-sign-requires
