@@ -5,11 +5,10 @@ use mathlib.Core.Path.{_≡_, refl, sym, ap, _∙_}
 use mathlib.Core.List.{List, [], _∷_}
 use mathlib.Core.Bool.{Bool, true, false, _||_, cond}
 use lib.ListN.{length, getD, drop}
-use lib.Dec.{eqb, leb}
+use lib.Dec.{leb}
 use borrow.Author.Tests.{eq-eqb, ne-eqb, eqb-true}
 use Rattle.text.specs.Limits.{mostGroups}
-use Rattle.text.specs.Bytes.{Text, Words, same, anyOf, first, rest, part}
-use Rattle.text.specs.Lines.{Line}
+use Rattle.text.specs.Bytes.{Text, same, anyOf, first, rest, part}
 use Rattle.text.specs.Reading.{left, ahead, follow, Opens, FoundWord, Passed}
 use Rattle.text.proofs.Lists.{nil-left}
 use Rattle.text.proofs.Positions.{part-cons}
@@ -28,7 +27,7 @@ use Rattle.firing.specs.declared.Cursors.{Cursors}
 use Rattle.firing.specs.Writing.{Low, runBuf, runCur}
 use Rattle.matching.specs.Groups.{groupsAt, Noted}
 use Rattle.resolver.specs.Running.{leftFirings, WalkedLine}
-use Rattle.resolver.proofs.HeadingLines.{HeadingIs, heading-is}
+use Rattle.resolver.proofs.HeadingLines.{heading-is}
 use Rattle.resolver.proofs.LineFirings.{nextFirings, firings-line}
 use Rattle.resolver.proofs.RuleLines.{words-from}
 use Rattle.resolver.proofs.Walks.{fires-is, next-group, fault-group, room-left}

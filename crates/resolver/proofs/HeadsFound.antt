@@ -3,8 +3,8 @@ use Prim.Native.Nat.{ℕ, min, _+_, _≤_, _<_}
 use native.Mathlib.Omega.{arith}
 use mathlib.Core.Path.{_≡_, refl, sym, ap, _∙_}
 use mathlib.Core.List.{List, [], _∷_}
-use mathlib.Core.Bool.{Bool, true, false, cond}
-use lib.ListN.{length, drop}
+use mathlib.Core.Bool.{Bool, true, false}
+use lib.ListN.{length}
 use Rattle.text.specs.Bytes.{Text, Words}
 use Rattle.text.specs.Lines.{Line, lines}
 use Rattle.text.specs.Reading.{follow, Opens}
@@ -13,7 +13,7 @@ use Rattle.text.proofs.Lists.{no}
 use Rattle.profile.specs.Profile.{Profile}
 use Rattle.rules.specs.declared.Present.{Present}
 use Rattle.rules.specs.Faults.{Groups}
-use Rattle.rules.specs.Checking.{lineOf, checkFrom, toHeading, fromHeading, mostHeads, HeadAt, Heads}
+use Rattle.rules.specs.Checking.{lineOf, checkFrom, toHeading, fromHeading, mostHeads, HeadAt}
 use Rattle.rules.proofs.FileChecks.{to-heading, to-other, to-none, from-next, no-lines}
 use Rattle.resolver.specs.declared.HeadingAt.{HeadingAt}
 use Rattle.resolver.specs.Running.{firingsFrom, NextHeading}

@@ -10,7 +10,6 @@ use borrow.Author.Tests.{eqb-true, eqb-false, leb-false}
 use Rattle.text.specs.Limits.{mostGroups}
 use Rattle.text.specs.Bytes.{Text, Words, same, anyOf, concatMap}
 use Rattle.text.specs.Lines.{Line}
-use Rattle.text.specs.Refusals.{refusedAs}
 use Rattle.text.specs.Reading.{follow, Opens}
 use Rattle.text.proofs.Lists.{nil-left}
 use Rattle.profile.specs.Profile.{Profile}
@@ -29,9 +28,8 @@ use Rattle.rules.specs.Checking.{lineOf, formOf, lineFault, presentOf, checkFro
 use Rattle.rules.proofs.Fresh.{as-none}
 use Rattle.rules.proofs.CheckSteps.{check-cons, entry-any, left-is, line-read, line-high, line-few, step-set}
 use Rattle.firing.specs.declared.Cursors.{Cursors}
-use Rattle.resolver.specs.declared.Walk.{Walk}
-use Rattle.answers.specs.Firings.{Firing, headFires}
-use Rattle.firing.specs.Writing.{Low, runBuf, runCur}
+use Rattle.answers.specs.Firings.{headFires}
+use Rattle.firing.specs.Writing.{Low}
 use Rattle.matching.specs.Groups.{groupsAt, Rowed}
 use Rattle.matching.specs.Held.{headingBy, SetSized}
 use Rattle.resolver.specs.Running.{rulesFrom, firingsFrom, leftFirings, FiredHeading, WalkedLine}

@@ -2,14 +2,13 @@
 use Prim.Native.Nat.{ℕ, zero, suc, _+_, _-_, _≤_, _<_}
 use native.Mathlib.Omega.{arith}
 use mathlib.Core.Path.{_≡_, refl, sym, ap, _∙_}
-use mathlib.Core.List.{List, [], _∷_}
-use mathlib.Core.Bool.{Bool, true, false, not, _||_, _&&_, cond}
+use mathlib.Core.List.{[], _∷_}
+use mathlib.Core.Bool.{Bool, true, false, not, _||_}
 use lib.ListN.{length, getD, take, drop}
-use lib.Dec.{eqb, ltb}
+use lib.Dec.{eqb}
 use borrow.Author.Tests.{eq-eqb, ne-eqb, eqb-true, eqb-false}
 use Rattle.text.specs.Bytes.{Text, Words, same, allOf, anyOf, part}
-use Rattle.text.specs.Lines.{Line}
-use Rattle.text.specs.Words.{badByte, tooLong, wordsFault}
+use Rattle.text.specs.Words.{wordsFault}
 use Rattle.text.specs.Reading.{left, ahead, follow, faultOf, kindOf, Fenced, Blanks, Skipped, PlainFound, ByteWord, NoWord, Opens}
 use Rattle.text.proofs.Lists.{no, and-both}
 use Rattle.text.proofs.ByteKinds.{not-bad, kind-zero}
@@ -17,7 +16,7 @@ use Rattle.text.proofs.Readers.{lineAt, line-first, fault-cons, fault-nil, lowe
 use Rattle.rules.specs.declared.Present.{Present}
 use Rattle.rules.specs.Words.{isEquals, ordinary, leftWord}
 use Rattle.rules.specs.Percent.{pieces, badPiece, malformed}
-use Rattle.rules.specs.Entries.{Entry, ignored, rule, ruleEntry, entryOf}
+use Rattle.rules.specs.Entries.{ignored, rule, ruleEntry, entryOf}
 use Rattle.rules.specs.Faults.{ruleShape, shapeFault}
 use Rattle.rules.specs.Checking.{lineOf, presentFault, lineFault, presentAfter, namesAfter}
 use Rattle.rules.proofs.Pieces.{pieces-byte}
