@@ -62,6 +62,6 @@ clean:
 
 # What a resolve costs, on Debian's stock rules files and on hard ones: docs/PERFORMANCE.md.
 bench:
-	test -d /usr/share/X11/xkb/rules || apt-get install -y xkb-data
+	{ test -e $(STOCK)/base && command -v valgrind > /dev/null; } || { apt-get update && apt-get install -y xkb-data valgrind; }
 	rt staticlib xkbrules
 	python3 bench/run
