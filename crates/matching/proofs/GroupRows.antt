@@ -5,7 +5,10 @@ use mathlib.Core.Path.{_≡_, refl, sym, ap, _∙_}
 use mathlib.Core.List.{List, [], _∷_}
 use mathlib.Core.Bool.{Bool, true, false, _||_, cond}
 use lib.ListN.{length, getD, drop}
-use lib.Dec.{eqb, leb}
+use lib.Dec.{eqb, leb, ltb}
+use borrow.Author.Tests.{eq-eqb, eqb-true, eqb-false, leb-true, leb-false, ltb-true, ltb-false}
+use Rattle.text.proofs.Lists.{no, same-eq}
+use Rattle.rules.specs.Checking.{namesAt}
 use Rattle.text.specs.Bytes.{Text, Words, same, anyOf, part}
 use Rattle.text.specs.Reading.{left}
 use Rattle.profile.specs.Profile.{Profile}
@@ -24,6 +27,10 @@ members-none : (s : Text) (t : List ℕ) (name : Text) → members (groupsAt s t
 unfolding groupsAt members
 members-none s t name = refl
 
+or-both : (a b : Bool) → (a || b) ≡ false → (a ≡ false) × (b ≡ false)
+or-both true b h = absurd (no (sym h))
+or-both false b h = (refl, h)
+
 -- no word, no answer
 pub asked-none : (p : Profile) (j : ℕ) → p .anyOption (λ v. false) ≡ false → asked p j [] ≡ false
 unfolding asked anyOf
@@ -35,34 +42,129 @@ asked-none p j h = go (eqb j 0) (leb j 4) (leb j 8)
     go false false true = refl
     go false false false = h
 
--- the loop of `group_asked`: the groups below k are still to be looked at
-pub record Looking (s : Text) (t : List ℕ) (name : Text) (n k : ℕ) : Type 0 where
+-- the name of a group by its number
+nameAt : Text → List ℕ → ℕ → Text
+nameAt s t g = part s (getD t (2 * g) 0) (getD t (2 * g + 1) 0)
+
+same-self : (a : Text) → same a a ≡ true
+unfolding same
+same-self [] = refl
+same-self (b ∷ a) = rw (eq-eqb b b refl) (same-self a)
+
+-- none of the names before a group's is its own
+other-name : (s : Text) (t : List ℕ) (q : Text → Bool) (n m : ℕ) → m < n → anyOf q (namesAt s t n) ≡ false → q (nameAt s t m) ≡ false
+unfolding namesAt anyOf nameAt
+other-name s t q zero m l h = absurd (omega arith)
+other-name s t q (suc n) m l h =
+    go (eqb m n) refl (or-both (q (nameAt s t n)) (anyOf q (namesAt s t n)) h) (λ a b. other-name s t q n m a b)
+  where
+    go : (b : Bool) → eqb m n ≡ b → (q (nameAt s t n) ≡ false) × (anyOf q (namesAt s t n) ≡ false) →
+        (m < n → anyOf q (namesAt s t n) ≡ false → q (nameAt s t m) ≡ false) → q (nameAt s t m) ≡ false
+    go true e v f = let c : m ≡ n = eqb-true m n e in rw c (v .0)
+    go false e v f = let c = eqb-false m n e in f (not-last m n l c) (v .1)
+      where
+        not-last : (x y : ℕ) → x < suc y → (x ≡ y → ⊥) → x < y
+        not-last x y a b = by (ltb x y) refl
+          where
+            by : (u : Bool) → ltb x y ≡ u → x < y
+            by true z = ltb-true x y z
+            by false z = absurd (b (let k = ltb-false x y z in omega arith))
+
+-- the loop of `group_asked`: of the groups from k on those whose answer is yes have other names
+pub record Looking (s : Text) (t : List ℕ) (rows : List Bool) (name : Text) (n j k : ℕ) : Type 0 where
   pub high : k ≤ n
-  pub rest : members (groupsAt s t n) name ≡ members (groupsAt s t k) name
+  pub passed : (i : ℕ) → k ≤ i → i < n → getD rows (10 * i + j) false ≡ true → same name (part s (getD t (2 * i) 0) (getD t (2 * i + 1) 0)) ≡ false
 
-module _ (s : Text) (t : List ℕ) (name : Text) (n : ℕ) where
-  pub looking-start : Looking s t name n n
-  looking-start = record { high = omega arith; rest = refl }
+module _ (s : Text) (t : List ℕ) (rows : List Bool) (name : Text) (n j : ℕ) where
+  pub looking-start : Looking s t rows name n j n
+  looking-start = record { high = omega arith; passed = λ i a b e. absurd (omega arith) }
 
-  module _ (k : ℕ) (v : Looking s t name n k) where
-    looking-step : 0 < k →
-        members (groupsAt s t k) name ≡
-        cond (same name (part s (getD t (2 * (k - 1)) 0) (getD t (2 * (k - 1) + 1) 0))) (drop 1 (left s (getD t (2 * (k - 1) + 1) 0))) (members (groupsAt s t (k - 1)) name)
-    looking-step h =
-        let e : k ≡ suc (k - 1) = omega arith in
-        ap (λ (m : ℕ). members (groupsAt s t m) name) e ∙ members-at s t (k - 1) name
+  -- one group further down
+  looking-on : (k : ℕ) → Looking s t rows name n j k → 0 < k →
+      (getD rows (10 * (k - 1) + j) false ≡ true → same name (part s (getD t (2 * (k - 1)) 0) (getD t (2 * (k - 1) + 1) 0)) ≡ false) → Looking s t rows name n j (k - 1)
+  looking-on k v h f = record { high = omega (arith, v .high); passed = λ i a b. by i a b (eqb i (k - 1)) refl }
+    where
+      by : (i : ℕ) → k - 1 ≤ i → i < n → (u : Bool) → eqb i (k - 1) ≡ u → getD rows (10 * i + j) false ≡ true →
+          same name (part s (getD t (2 * i) 0) (getD t (2 * i + 1) 0)) ≡ false
+      by i a b true e = let c : i ≡ k - 1 = eqb-true i (k - 1) e in rw c f
+      by i a b false e = let c = eqb-false i (k - 1) e in v .passed i (above i a c) b
+        where
+          above : (x : ℕ) → k - 1 ≤ x → (x ≡ k - 1 → ⊥) → k ≤ x
+          above x l d = at (leb k x) refl
+            where
+              at : (w : Bool) → leb k x ≡ w → k ≤ x
+              at true z = leb-true k x z
+              at false z = absurd (d (let q = leb-false k x z in omega arith))
 
-    pub looking-hit : (rows : List Bool) (j : ℕ) → 0 < k → j < 10 → same name (part s (getD t (2 * (k - 1)) 0) (getD t (2 * (k - 1) + 1) 0)) ≡ true →
-        Told s t rows n (ofGroup s t n name j) (getD rows (10 * (k - 1) + j) false)
-    looking-hit rows j h l e =
-        let q : members (groupsAt s t n) name ≡ drop 1 (left s (getD t (2 * (k - 1) + 1) 0)) = v .rest ∙ (looking-step h ∙ rw e refl) in
-        record { means = λ p w z. w .row (k - 1) j (omega (arith, v .high)) l ∙ sym (ap (asked p j) q) }
+  module _ (k : ℕ) (v : Looking s t rows name n j k) (h : 0 < k) where
+    pub looking-off : getD rows (10 * (k - 1) + j) false ≡ false → Looking s t rows name n j (k - 1)
+    looking-off e = looking-on k v h (λ z. absurd (no (sym e ∙ z)))
 
-    pub looking-more : 0 < k → same name (part s (getD t (2 * (k - 1)) 0) (getD t (2 * (k - 1) + 1) 0)) ≡ false → Looking s t name n (k - 1)
-    looking-more h e = record { high = omega (arith, v .high); rest = v .rest ∙ (looking-step h ∙ rw e refl) }
+    pub looking-more : same name (part s (getD t (2 * (k - 1)) 0) (getD t (2 * (k - 1) + 1) 0)) ≡ false → Looking s t rows name n j (k - 1)
+    looking-more e = looking-on k v h (λ z. e)
 
-    pub looking-end : (rows : List Bool) (j : ℕ) → k ≤ 0 → Told s t rows n (ofGroup s t n name j) false
-    looking-end rows j h =
-        let e : k ≡ 0 = omega arith in
-        let q : members (groupsAt s t n) name ≡ [] = v .rest ∙ (ap (λ (m : ℕ). members (groupsAt s t m) name) e ∙ members-none s t name) in
-        record { means = λ p w z. sym (ap (asked p j) q ∙ asked-none p j z) }
+  -- groups of other names are passed over
+  members-down : (k m : ℕ) → k ≤ m → ((i : ℕ) → k ≤ i → i < m → same name (part s (getD t (2 * i) 0) (getD t (2 * i + 1) 0)) ≡ false) →
+      members (groupsAt s t m) name ≡ members (groupsAt s t k) name
+  members-down k zero l f = let c : k ≡ 0 = omega arith in rw c refl
+  members-down k (suc m) l f = by (eqb k (suc m)) refl (λ d. members-down k m d (λ i a b. f i a (omega arith)))
+    where
+      by : (u : Bool) → eqb k (suc m) ≡ u → (k ≤ m → members (groupsAt s t m) name ≡ members (groupsAt s t k) name) →
+          members (groupsAt s t (suc m)) name ≡ members (groupsAt s t k) name
+      by true e g = let c : k ≡ suc m = eqb-true k (suc m) e in rw c refl
+      by false e g =
+          let d : k ≤ m = below (eqb-false k (suc m) e) in
+          members-at s t m name ∙ (rw (f m d (omega arith)) (g d))
+        where
+          below : (k ≡ suc m → ⊥) → k ≤ m
+          below d = at (leb k m) refl
+            where
+              at : (w : Bool) → leb k m ≡ w → k ≤ m
+              at true z = leb-true k m z
+              at false z = absurd (d (let q = leb-false k m z in omega arith))
+
+  pub looking-hit : (k : ℕ) → Looking s t rows name n j k → 0 < k → j < 10 → getD rows (10 * (k - 1) + j) false ≡ true →
+      same name (part s (getD t (2 * (k - 1)) 0) (getD t (2 * (k - 1) + 1) 0)) ≡ true → Told s t rows n (ofGroup s t n name j) true
+  unfolding nameAt
+  looking-hit k v h l y e =
+      record {
+        means = λ p w z.
+            let f : (i : ℕ) → k ≤ i → i < n → same name (part s (getD t (2 * i) 0) (getD t (2 * i + 1) 0)) ≡ false =
+            λ i a b. other i (w .apart i b) a (same name (part s (getD t (2 * i) 0) (getD t (2 * i + 1) 0))) refl in
+            let q : members (groupsAt s t n) name ≡ drop 1 (left s (getD t (2 * (k - 1) + 1) 0)) =
+            members-down k n (v .high) f ∙ (here ∙ rw e refl) in
+            sym y ∙ (w .row (k - 1) j (omega (arith, v .high)) l ∙ sym (ap (asked p j) q));
+      }
+    where
+      here : members (groupsAt s t k) name ≡
+          cond (same name (part s (getD t (2 * (k - 1)) 0) (getD t (2 * (k - 1) + 1) 0))) (drop 1 (left s (getD t (2 * (k - 1) + 1) 0))) (members (groupsAt s t (k - 1)) name)
+      here =
+          let c : k ≡ suc (k - 1) = omega arith in
+          ap (λ (m : ℕ). members (groupsAt s t m) name) c ∙ members-at s t (k - 1) name
+
+      other : (i : ℕ) → anyOf (same (part s (getD t (2 * i) 0) (getD t (2 * i + 1) 0))) (namesAt s t i) ≡ false → k ≤ i → (b : Bool) →
+          same name (part s (getD t (2 * i) 0) (getD t (2 * i + 1) 0)) ≡ b → same name (part s (getD t (2 * i) 0) (getD t (2 * i + 1) 0)) ≡ false
+      other i x a false g = g
+      other i x a true g =
+          let c : name ≡ nameAt s t i = same-eq name (nameAt s t i) g in
+          let d : name ≡ nameAt s t (k - 1) = same-eq name (nameAt s t (k - 1)) e in
+          let o : same (nameAt s t i) (nameAt s t (k - 1)) ≡ false = other-name s t (same (nameAt s t i)) i (k - 1) (omega arith) x in
+          absurd (no (sym o ∙ (ap (same (nameAt s t i)) (sym d ∙ c) ∙ same-self (nameAt s t i))))
+
+  pub looking-end : (k : ℕ) → Looking s t rows name n j k → k ≤ 0 → j < 10 → Told s t rows n (ofGroup s t n name j) false
+  looking-end k v h l = record { means = λ p w z. sym (never p w z n (omega arith)) }
+    where
+      never : (p : Profile) → Rowed p s t rows n → p .anyOption (λ x. false) ≡ false → (m : ℕ) → m ≤ n → asked p j (members (groupsAt s t m) name) ≡ false
+      never p w z zero a = ap (asked p j) (members-none s t name) ∙ asked-none p j z
+      never p w z (suc m) a =
+          ap (asked p j) (members-at s t m name) ∙
+          by (same name (part s (getD t (2 * m) 0) (getD t (2 * m + 1) 0))) refl (never p w z m (omega arith))
+        where
+          by : (u : Bool) → same name (part s (getD t (2 * m) 0) (getD t (2 * m + 1) 0)) ≡ u → asked p j (members (groupsAt s t m) name) ≡ false →
+              asked p j (cond u (drop 1 (left s (getD t (2 * m + 1) 0))) (members (groupsAt s t m) name)) ≡ false
+          by false e g = g
+          by true e g = sym (w .row m j (omega arith) l) ∙ off (getD rows (10 * m + j) false) refl
+            where
+              off : (r : Bool) → getD rows (10 * m + j) false ≡ r → getD rows (10 * m + j) false ≡ false
+              off false q = q
+              off true q = absurd (no (sym (v .passed m (omega arith) (omega arith) q) ∙ e))

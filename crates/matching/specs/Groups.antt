@@ -29,9 +29,10 @@ asked p j ms =
     (cond (leb j 8) (anyOf (same (getD (p .variants) (j - 5) [])) ms)
     (p .anyOption (λ v. anyOf (same v) ms))))
 
--- the answers for the first n groups, ten for each
+-- the answers for the first n groups, ten for each; no two of them have one name
 pub record Rowed (p : Profile) (s : Text) (t : List ℕ) (rows : List Bool) (n : ℕ) : Type 0 where
   pub size : length rows ≡ 640
+  pub apart : (g : ℕ) → g < n → anyOf (same (part s (getD t (2 * g) 0) (getD t (2 * g + 1) 0))) (namesAt s t g) ≡ false
   pub row : (g j : ℕ) → g < n → j < 10 → getD rows (10 * g + j) false ≡ asked p j (drop 1 (left s (getD t (2 * g + 1) 0)))
 
 -- one group more, whose name stands from a to e

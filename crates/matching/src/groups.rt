@@ -3,12 +3,13 @@ ghost use mathlib.Core.Path.{_≡_};
 ghost use mathlib.Core.List.{[], _∷_};
 ghost use Prim.Native.Nat.{_<_, _≤_, _+_};
 ghost use lib.ListN.{length};
-ghost use Rattle.text.specs.Bytes.{same as sameText};
+ghost use mathlib.Core.Bool.{false};
+ghost use Rattle.text.specs.Bytes.{same as sameText, anyOf, part};
 ghost use Rattle.text.specs.Limits.{mostOptions, mostGroups};
 ghost use Rattle.text.specs.Reading.{left, Table, Fenced, Within, Passed};
 ghost use Rattle.profile.specs.Profile.{textsOf, profileOf, optionsOf};
 ghost use Rattle.profile.specs.Listing.{Listed};
-ghost use Rattle.rules.specs.Checking.{Named};
+ghost use Rattle.rules.specs.Checking.{Named, namesAt};
 ghost use Rattle.matching.specs.Groups.{Rowed, Noted};
 ghost use Rattle.matching.specs.Rows.{Told, ofGroup, MarkedFor, QuestionMarked, Cleared, RowFilled};
 use profile::fields::field;
@@ -18,7 +19,7 @@ use text::Next;
 use text::compare::same;
 use text::reader::word_at;
 
-// Question j of the group of this name; no, if there is none.
+// Question j of the group of this name; no, if there is none. Only names of groups whose answer is yes are compared: no two groups have one name.
 pub fn group_asked(
     s: &[u8],
     names: &[usize; 128],
@@ -34,10 +35,13 @@ pub fn group_asked(
     let mut k = n;
     while 0 < k {
         k -= 1;
+        if !rows[10 * k + j] {
+            continue;
+        }
         let start = names[2 * k];
         let end = names[2 * k + 1];
         if same(name, &s[start..end]) {
-            return rows[10 * k + j];
+            return true;
         }
     }
     false
@@ -264,7 +268,8 @@ pub fn note_group(
         × Listed (now options) (now table) count
         × (length (optionsOf (now options)) ≤ mostOptions)
         × (g < mostGroups)
-        × Rowed (profileOf (textsOf (now model) (now layouts) (now variants) (now options))) (now s) (now names) (now rows) g ⌝ }
+        × Rowed (profileOf (textsOf (now model) (now layouts) (now variants) (now options))) (now s) (now names) (now rows) g
+        × (anyOf (sameText (part (now s) start end)) (namesAt (now s) (now names) g) ≡ false) ⌝ }
     ensures { λ r. ⌜ Noted (profileOf (textsOf (now (model .entry)) (now (layouts .entry)) (now (variants .entry)) (now (options .entry))))
         (now (s .entry)) (now (names .entry)) (now (names .exit)) (now (rows .exit)) g start end
         × Passed (now (s .entry)) end line (r .at) (r .line) ⌝ }

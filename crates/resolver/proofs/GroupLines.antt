@@ -95,6 +95,13 @@ module _ (pr : Profile) (s t : Text) (p : Progress) (q : Cursors) (d : Text) (fr
   group-room =
       room-left (anyOf (same (part s (a + 1) e)) (namesAt s t (p .groups))) (p .groups) (namesAt s t (p .groups)) (names-length s t (p .groups)) fault-of
 
+  pub group-new : anyOf (same (part s (a + 1) e)) (namesAt s t (p .groups)) ≡ false
+  group-new = is-new (anyOf (same (part s (a + 1) e)) (namesAt s t (p .groups))) (leb mostGroups (length (namesAt s t (p .groups)))) fault-of
+    where
+      is-new : (x y : Bool) → _≡_ {A = ℕ} (cond (x || y) 10 0) 0 → x ≡ false
+      is-new false y h = refl
+      is-new true y h = absurd (omega (arith, h))
+
   module _ (at line : ℕ) (v : Passed s e l at line) (t′ : Text) (rows′ : List Bool) (n : Noted pr s t t′ rows′ (p .groups) (a + 1) e) where
     abbrev next : Progress
     next = record { at = at; line = line; groups = p .groups + 1; present = noHeading; fault = 0; heading = true }

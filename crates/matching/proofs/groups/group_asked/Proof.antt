@@ -1,24 +1,39 @@
 use borrow.Author.Needs.{needs}
+use Rattle.matching.proofs.groups.group_asked.Statement.{statement}
+use Rattle.matching.proofs.groups.group_asked.Tie as tie
 use Prim.Native.Nat.{_-_}
 use native.Mathlib.Omega.{arith}
 use mathlib.Core.Path.{_≡_, sym, ap, _∙_}
+use borrow.Author.Tests.{not-true, not-false}
 use Rattle.text.specs.Bytes.{same, part}
-use Rattle.matching.proofs.GroupRows.{Looking, looking-start, looking-hit, looking-more, looking-end}
-use Rattle.matching.proofs.groups.group_asked.Statement.{statement}
-use Rattle.matching.proofs.groups.group_asked.Tie as tie
-use Rattle.text.proofs.compare.same.Reads as same-reads
+use Rattle.matching.proofs.GroupRows.{Looking, looking-start, looking-hit, looking-off, looking-more, looking-end}
 
 abbrev Inv-loop : tie.InvT-loop
-Inv-loop s names rows n name j k₀ k = Looking s names name n k
+Inv-loop s names rows n name j k₀ k = Looking s names rows name n j k
 
 abbrev μ-loop : tie.MeasureT-loop
 μ-loop s names rows n name j k₀ k = k
 
 loop-holds : tie.Need-loop-holds Inv-loop μ-loop
-loop-holds c = looking-start _ _ _ _
+loop-holds c = looking-start _ _ _ _ _ _
 
 sub-k : tie.Need-sub-k Inv-loop μ-loop
 sub-k c = search needs
+
+mul-if1 : tie.Need-mul-if1 Inv-loop μ-loop
+mul-if1 c = search needs
+
+add-if1 : tie.Need-add-if1 Inv-loop μ-loop
+add-if1 c = search needs
+
+element-copy-out-if1 : tie.Need-element-copy-out-if1 Inv-loop μ-loop
+element-copy-out-if1 c = search needs
+
+loop-less : tie.Need-loop-less Inv-loop μ-loop
+loop-less c = search needs
+
+loop-again : tie.Need-loop-again Inv-loop μ-loop
+loop-again c = looking-off _ _ _ _ _ _ _ (c .before .before .before .loop .inv) (c .before .before .loop-test .taken) (not-true _ (c .if1 .taken))
 
 mul-start : tie.Need-mul-start Inv-loop μ-loop
 mul-start c = search needs
@@ -42,39 +57,30 @@ element-copy-out-end : tie.Need-element-copy-out-end Inv-loop μ-loop
 element-copy-out-end c = search needs
 
 sub-same : tie.Need-sub-same Inv-loop μ-loop
-sub-same c = c .before .before .before .before .before .before .pre .0 .within (c .before .before .before .loop .k - 1) (omega arith) .0
+sub-same c = c .before .before .before .before .before .before .before .before .pre .0 .within (c .before .before .before .before .before .loop .k - 1) (omega (arith, c .before .before .before .before .before .loop .inv .high)) .0
 
 part-same-start : tie.Need-part-same-start Inv-loop μ-loop
-part-same-start c = c .before .before .before .before .before .before .pre .0 .within (c .before .before .before .loop .k - 1) (omega arith) .0
+part-same-start c = c .before .before .before .before .before .before .before .before .pre .0 .within (c .before .before .before .before .before .loop .k - 1) (omega (arith, c .before .before .before .before .before .loop .inv .high)) .0
 
 part-same-end : tie.Need-part-same-end Inv-loop μ-loop
-part-same-end c = c .before .before .before .before .before .before .pre .0 .within (c .before .before .before .loop .k - 1) (omega arith) .1
+part-same-end c = c .before .before .before .before .before .before .before .before .pre .0 .within (c .before .before .before .before .before .loop .k - 1) (omega (arith, c .before .before .before .before .before .loop .inv .high)) .1
 
 same-requires : tie.Need-same-requires Inv-loop μ-loop
 same-requires c κs = search needs
 
-mul-result : tie.Need-mul-result Inv-loop μ-loop
-mul-result c = search needs
-
-add-result : tie.Need-add-result Inv-loop μ-loop
-add-result c = search needs
-
-element-copy-out-result : tie.Need-element-copy-out-result Inv-loop μ-loop
-element-copy-out-result c = search needs
-
 returns : tie.Need-returns Inv-loop μ-loop
 unfolding part
-returns c = looking-hit _ _ _ _ _ (c .before .before .before .before .before .before .before .loop .inv) _ _ (c .before .before .before .before .before .before .loop-test .taken) (c .before .before .before .before .before .before .before .before .before .before .pre .1) (sym (c .before .before .same .ensures) ∙ c .before .if1 .taken)
+returns c = looking-hit _ _ _ _ _ _ _ (c .before .before .before .before .before .before .before .before .loop .inv) (c .before .before .before .before .before .before .before .loop-test .taken) (c .before .before .before .before .before .before .before .before .before .before .before .pre .1) (not-false _ (c .before .before .before .before .before .if1 .left)) (sym (c .before .same .ensures) ∙ c .if2 .taken)
 
-loop-less : tie.Need-loop-less Inv-loop μ-loop
-loop-less c = search needs
+loop-less-2 : tie.Need-loop-less-2 Inv-loop μ-loop
+loop-less-2 c = search needs
 
-loop-again : tie.Need-loop-again Inv-loop μ-loop
+loop-again-2 : tie.Need-loop-again-2 Inv-loop μ-loop
 unfolding part
-loop-again c = looking-more _ _ _ _ _ (c .before .before .before .before .before .before .loop .inv) (c .before .before .before .before .before .loop-test .taken) (sym (c .before .same .ensures) ∙ c .if1 .left)
+loop-again-2 c = looking-more _ _ _ _ _ _ _ (c .before .before .before .before .before .before .before .before .loop .inv) (c .before .before .before .before .before .before .before .loop-test .taken) (sym (c .before .same .ensures) ∙ c .if2 .left)
 
 returns-2 : tie.Need-returns-2 Inv-loop μ-loop
-returns-2 c = looking-end _ _ _ _ _ (c .before .loop .inv) _ _ (c .loop-test .left)
+returns-2 c = looking-end _ _ _ _ _ _ _ (c .before .loop .inv) (c .loop-test .left) (c .before .before .before .before .pre .1)
 
 pub group-asked-spec : {M : Type 1} → statement M
 group-asked-spec =
@@ -84,6 +90,11 @@ group-asked-spec =
     μ-loop
     loop-holds
     sub-k
+    mul-if1
+    add-if1
+    element-copy-out-if1
+    loop-less
+    loop-again
     mul-start
     mul-start-2
     element-copy-out-start
@@ -95,10 +106,7 @@ group-asked-spec =
     part-same-start
     part-same-end
     same-requires
-    mul-result
-    add-result
-    element-copy-out-result
     returns
-    loop-less
-    loop-again
+    loop-less-2
+    loop-again-2
     returns-2)

@@ -28,7 +28,7 @@ fill-row-requires : tie.Need-fill-row-requires
 fill-row-requires c κs = search needs
 
 returns : tie.Need-returns
-returns c = (noted _ _ _ _ _ (c .before .before .before .before .before .before .before .pre .5) (c .before .before .before .before .before .before .before .pre .8) _ _ _ (c .before .before .before .before .before .before .before .pre .2) (c .before .before .before .before .before .before .before .pre .3) (c .before .before .before .before .before .before .before .pre .9) (c .fill-row .ensures .0), c .fill-row .ensures .1)
+returns c = (noted _ _ _ _ _ (c .before .before .before .before .before .before .before .pre .5) (c .before .before .before .before .before .before .before .pre .8) _ _ _ (c .before .before .before .before .before .before .before .pre .2) (c .before .before .before .before .before .before .before .pre .3) (c .before .before .before .before .before .before .before .pre .9) (c .fill-row .ensures .0) (c .before .before .before .before .before .before .before .pre .10), c .fill-row .ensures .1)
 
 pub note-group-spec : {M : Type 1} → statement M
 note-group-spec =

@@ -5,7 +5,7 @@ use native.Mathlib.Omega.{arith}
 use mathlib.Core.Path.{_∙_}
 use Rattle.profile.specs.Profile.{textsOf, profileOf}
 use Rattle.text.proofs.Readers.{found, stopped}
-use Rattle.resolver.proofs.GroupLines.{dollar-yes, not-dollar, none-dollar, group-room, walk-group}
+use Rattle.resolver.proofs.GroupLines.{dollar-yes, not-dollar, none-dollar, group-room, group-new, walk-group}
 
 word-at-requires : tie.Need-word-at-requires
 word-at-requires c κs = search needs
@@ -38,7 +38,7 @@ add-note-group c = let u = found _ _ _ _ _ _ _ _ (c .before .before .before .bef
 note-group-requires : tie.Need-note-group-requires
 note-group-requires c κs = let u = found _ _ _ _ _ _ _ _ (c .before .before .before .before .before .before .start .given .1) (c .before .before .before .before .before .before .before .before .word-at .ensures) in
     let b = dollar-yes _ _ _ (u .some) (u .high) (c .before .before .before .if1 .left) in
-    (c .before .before .before .before .before .before .before .before .before .before .before .before .before .before .before .before .before .pre .0, c .before .before .before .before .before .before .before .before .before .before .before .before .before .before .before .before .before .pre .1, omega (arith, u .some), u .high, u .few, c .before .before .before .before .before .before .before .before .before .before .before .before .before .before .before .before .before .pre .3 .named, c .before .before .before .before .before .before .before .before .before .before .before .before .before .before .before .before .before .pre .5, c .before .before .before .before .before .before .before .before .before .before .before .before .before .before .before .before .before .pre .6, group-room (profileOf (textsOf (c .before .before .before .before .before .before .before .before .before .before .before .before .before .before .before .before .before .args .model .now) (c .before .before .before .before .before .before .before .before .before .before .before .before .before .before .before .before .before .args .layouts .now) (c .before .before .before .before .before .before .before .before .before .before .before .before .before .before .before .before .before .args .variants .now) (c .before .before .before .before .before .before .before .before .before .before .before .before .before .before .before .before .before .args .options .now))) _ _ _ (c .before .before .before .before .before .before .before .before .before .before .before .before .before .before .before .before .before .args .w .cursors) (c .before .before .before .before .before .before .before .before .before .before .before .before .before .before .before .before .before .args .buf .now) _ _ (c .before .before .before .before .before .before .before .before .before .before .before .before .before .before .before .before .before .pre .15) (c .before .before .before .before .before .before .before .before .before .before .before .before .before .before .before .before .before .pre .17) (c .before .before .before .before .before .before .before .before .before .before .before .before .before .before .before .before .before .pre .3) (c .before .before .before .before .before .before .before .before .before .before .before .before .before .before .before .before .before .pre .16) (c .before .before .before .before .before .before .before .before .before .before .before .before .before .before .before .before .before .pre .14) _ _ _ _ u b, c .before .before .before .before .before .before .before .before .before .before .before .before .before .before .before .before .before .pre .4)
+    (c .before .before .before .before .before .before .before .before .before .before .before .before .before .before .before .before .before .pre .0, c .before .before .before .before .before .before .before .before .before .before .before .before .before .before .before .before .before .pre .1, omega (arith, u .some), u .high, u .few, c .before .before .before .before .before .before .before .before .before .before .before .before .before .before .before .before .before .pre .3 .named, c .before .before .before .before .before .before .before .before .before .before .before .before .before .before .before .before .before .pre .5, c .before .before .before .before .before .before .before .before .before .before .before .before .before .before .before .before .before .pre .6, group-room (profileOf (textsOf (c .before .before .before .before .before .before .before .before .before .before .before .before .before .before .before .before .before .args .model .now) (c .before .before .before .before .before .before .before .before .before .before .before .before .before .before .before .before .before .args .layouts .now) (c .before .before .before .before .before .before .before .before .before .before .before .before .before .before .before .before .before .args .variants .now) (c .before .before .before .before .before .before .before .before .before .before .before .before .before .before .before .before .before .args .options .now))) _ _ _ (c .before .before .before .before .before .before .before .before .before .before .before .before .before .before .before .before .before .args .w .cursors) (c .before .before .before .before .before .before .before .before .before .before .before .before .before .before .before .before .before .args .buf .now) _ _ (c .before .before .before .before .before .before .before .before .before .before .before .before .before .before .before .before .before .pre .15) (c .before .before .before .before .before .before .before .before .before .before .before .before .before .before .before .before .before .pre .17) (c .before .before .before .before .before .before .before .before .before .before .before .before .before .before .before .before .before .pre .3) (c .before .before .before .before .before .before .before .before .before .before .before .before .before .before .before .before .before .pre .16) (c .before .before .before .before .before .before .before .before .before .before .before .before .before .before .before .before .before .pre .14) _ _ _ _ u b, c .before .before .before .before .before .before .before .before .before .before .before .before .before .before .before .before .before .pre .4, group-new (profileOf (textsOf (c .before .before .before .before .before .before .before .before .before .before .before .before .before .before .before .before .before .args .model .now) (c .before .before .before .before .before .before .before .before .before .before .before .before .before .before .before .before .before .args .layouts .now) (c .before .before .before .before .before .before .before .before .before .before .before .before .before .before .before .before .before .args .variants .now) (c .before .before .before .before .before .before .before .before .before .before .before .before .before .before .before .before .before .args .options .now))) _ _ _ (c .before .before .before .before .before .before .before .before .before .before .before .before .before .before .before .before .before .args .w .cursors) (c .before .before .before .before .before .before .before .before .before .before .before .before .before .before .before .before .before .args .buf .now) _ _ (c .before .before .before .before .before .before .before .before .before .before .before .before .before .before .before .before .before .pre .15) (c .before .before .before .before .before .before .before .before .before .before .before .before .before .before .before .before .before .pre .17) (c .before .before .before .before .before .before .before .before .before .before .before .before .before .before .before .before .before .pre .3) (c .before .before .before .before .before .before .before .before .before .before .before .before .before .before .before .before .before .pre .16) (c .before .before .before .before .before .before .before .before .before .before .before .before .before .before .before .before .before .pre .14) _ _ _ _ u b)
 
 add-t40 : tie.Need-add-t40
 add-t40 c = search needs
