@@ -7,7 +7,7 @@ use mathlib.Core.Bool.{Bool, true, false, _||_, cond, or-assoc}
 use lib.ListN.{length, getD, set, drop, length-set}
 use lib.Seq.{getD-set-same, getD-set-other}
 use lib.Dec.{eqb, leb, ltb}
-use borrow.Author.Tests.{ne-eqb, eq-eqb, eqb-false, le-leb, lt-leb, ltb-true, ltb-false}
+use borrow.Author.Tests.{ne-eqb, eqb-false, le-leb, lt-leb, ltb-true, ltb-false}
 use Rattle.text.specs.Bytes.{Text, Words, same, anyOf, part}
 use Rattle.text.specs.Reading.{left, FoundWord, NoWord}
 use Rattle.text.proofs.Lists.{both-ways, same-eq}
@@ -15,13 +15,8 @@ use Rattle.profile.specs.Profile.{Texts, Profile, textsOf, profileOf, fields, o
 use Rattle.rules.specs.Checking.{namesAt}
 use Rattle.matching.specs.Groups.{asked, Rowed}
 use Rattle.matching.specs.Rows.{HasValues, MarkedFor, QuestionMarked, Marked, Cleared, RowFilled}
-use Rattle.matching.proofs.GroupRows.{asked-none}
+use Rattle.matching.proofs.GroupRows.{asked-none, same-self}
 use Rattle.matching.proofs.Matches.{any-alike, option-never}
-
-same-self : (a : Text) → same a a ≡ true
-unfolding same
-same-self [] = refl
-same-self (b ∷ a) = rw (eq-eqb b b refl) (same-self a)
 
 pub same-turned : (a b : Text) → same a b ≡ same b a
 same-turned a b =

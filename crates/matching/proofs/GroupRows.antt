@@ -3,10 +3,10 @@ use Prim.Native.Nat.{ℕ, zero, suc, _+_, _*_, _-_, _≤_, _<_}
 use native.Mathlib.Omega.{arith}
 use mathlib.Core.Path.{_≡_, refl, sym, ap, _∙_}
 use mathlib.Core.List.{List, [], _∷_}
-use mathlib.Core.Bool.{Bool, true, false, _||_, cond}
+use mathlib.Core.Bool.{Bool, true, false, cond}
 use lib.ListN.{length, getD, drop}
 use lib.Dec.{eqb, leb, ltb}
-use borrow.Author.Tests.{eq-eqb, eqb-true, eqb-false, leb-true, leb-false, ltb-true, ltb-false}
+use borrow.Author.Tests.{eq-eqb, eqb-true, eqb-false, ltb-true, ltb-false}
 use Rattle.text.proofs.Lists.{no, same-eq}
 use Rattle.rules.specs.Checking.{namesAt}
 use Rattle.text.specs.Bytes.{Text, Words, same, anyOf, part}
@@ -14,6 +14,7 @@ use Rattle.text.specs.Reading.{left}
 use Rattle.profile.specs.Profile.{Profile}
 use Rattle.rules.specs.Faults.{Group, Groups}
 use Rattle.answers.specs.Matching.{members}
+use Rattle.answers.proofs.Answers.{neither}
 use Rattle.matching.specs.Groups.{groupsAt, asked, Rowed}
 use Rattle.matching.specs.Rows.{Told, ofGroup}
 
@@ -26,10 +27,6 @@ members-at s t n name = refl
 members-none : (s : Text) (t : List ℕ) (name : Text) → members (groupsAt s t 0) name ≡ []
 unfolding groupsAt members
 members-none s t name = refl
-
-or-both : (a b : Bool) → (a || b) ≡ false → (a ≡ false) × (b ≡ false)
-or-both true b h = absurd (no (sym h))
-or-both false b h = (refl, h)
 
 -- no word, no answer
 pub asked-none : (p : Profile) (j : ℕ) → p .anyOption (λ v. false) ≡ false → asked p j [] ≡ false
@@ -46,29 +43,29 @@ asked-none p j h = go (eqb j 0) (leb j 4) (leb j 8)
 nameAt : Text → List ℕ → ℕ → Text
 nameAt s t g = part s (getD t (2 * g) 0) (getD t (2 * g + 1) 0)
 
-same-self : (a : Text) → same a a ≡ true
+pub same-self : (a : Text) → same a a ≡ true
 unfolding same
 same-self [] = refl
 same-self (b ∷ a) = rw (eq-eqb b b refl) (same-self a)
+
+under : (x y : ℕ) → x ≤ y → (x ≡ y → ⊥) → x < y
+under x y l d = by (ltb x y) refl
+  where
+    by : (u : Bool) → ltb x y ≡ u → x < y
+    by true z = ltb-true x y z
+    by false z = absurd (d (let k = ltb-false x y z in omega arith))
 
 -- none of the names before a group's is its own
 other-name : (s : Text) (t : List ℕ) (q : Text → Bool) (n m : ℕ) → m < n → anyOf q (namesAt s t n) ≡ false → q (nameAt s t m) ≡ false
 unfolding namesAt anyOf nameAt
 other-name s t q zero m l h = absurd (omega arith)
 other-name s t q (suc n) m l h =
-    go (eqb m n) refl (or-both (q (nameAt s t n)) (anyOf q (namesAt s t n)) h) (λ a b. other-name s t q n m a b)
+    go (eqb m n) refl (neither (q (nameAt s t n)) (anyOf q (namesAt s t n)) h) (λ a b. other-name s t q n m a b)
   where
     go : (b : Bool) → eqb m n ≡ b → (q (nameAt s t n) ≡ false) × (anyOf q (namesAt s t n) ≡ false) →
         (m < n → anyOf q (namesAt s t n) ≡ false → q (nameAt s t m) ≡ false) → q (nameAt s t m) ≡ false
     go true e v f = let c : m ≡ n = eqb-true m n e in rw c (v .0)
-    go false e v f = let c = eqb-false m n e in f (not-last m n l c) (v .1)
-      where
-        not-last : (x y : ℕ) → x < suc y → (x ≡ y → ⊥) → x < y
-        not-last x y a b = by (ltb x y) refl
-          where
-            by : (u : Bool) → ltb x y ≡ u → x < y
-            by true z = ltb-true x y z
-            by false z = absurd (b (let k = ltb-false x y z in omega arith))
+    go false e v f = f (under m n (omega arith) (eqb-false m n e)) (v .1)
 
 -- the loop of `group_asked`: of the groups from k on those whose answer is yes have other names
 pub record Looking (s : Text) (t : List ℕ) (rows : List Bool) (name : Text) (n j k : ℕ) : Type 0 where
@@ -87,14 +84,7 @@ module _ (s : Text) (t : List ℕ) (rows : List Bool) (name : Text) (n j : ℕ) 
       by : (i : ℕ) → k - 1 ≤ i → i < n → (u : Bool) → eqb i (k - 1) ≡ u → getD rows (10 * i + j) false ≡ true →
           same name (part s (getD t (2 * i) 0) (getD t (2 * i + 1) 0)) ≡ false
       by i a b true e = let c : i ≡ k - 1 = eqb-true i (k - 1) e in rw c f
-      by i a b false e = let c = eqb-false i (k - 1) e in v .passed i (above i a c) b
-        where
-          above : (x : ℕ) → k - 1 ≤ x → (x ≡ k - 1 → ⊥) → k ≤ x
-          above x l d = at (leb k x) refl
-            where
-              at : (w : Bool) → leb k x ≡ w → k ≤ x
-              at true z = leb-true k x z
-              at false z = absurd (d (let q = leb-false k x z in omega arith))
+      by i a b false e = let c = under (k - 1) i a (λ q. eqb-false i (k - 1) e (sym q)) in v .passed i (omega arith) b
 
   module _ (k : ℕ) (v : Looking s t rows name n j k) (h : 0 < k) where
     pub looking-off : getD rows (10 * (k - 1) + j) false ≡ false → Looking s t rows name n j (k - 1)
@@ -113,15 +103,9 @@ module _ (s : Text) (t : List ℕ) (rows : List Bool) (name : Text) (n j : ℕ) 
           members (groupsAt s t (suc m)) name ≡ members (groupsAt s t k) name
       by true e g = let c : k ≡ suc m = eqb-true k (suc m) e in rw c refl
       by false e g =
-          let d : k ≤ m = below (eqb-false k (suc m) e) in
+          let c = under k (suc m) l (eqb-false k (suc m) e) in
+          let d : k ≤ m = omega arith in
           members-at s t m name ∙ (rw (f m d (omega arith)) (g d))
-        where
-          below : (k ≡ suc m → ⊥) → k ≤ m
-          below d = at (leb k m) refl
-            where
-              at : (w : Bool) → leb k m ≡ w → k ≤ m
-              at true z = leb-true k m z
-              at false z = absurd (d (let q = leb-false k m z in omega arith))
 
   pub looking-hit : (k : ℕ) → Looking s t rows name n j k → 0 < k → j < 10 → getD rows (10 * (k - 1) + j) false ≡ true →
       same name (part s (getD t (2 * (k - 1)) 0) (getD t (2 * (k - 1) + 1) 0)) ≡ true → Told s t rows n (ofGroup s t n name j) true

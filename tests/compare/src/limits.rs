@@ -182,14 +182,7 @@ fn up_to(heading: &str, word: &str, fired: usize, total: usize) -> String {
     for _ in 0..total / fired {
         rules += &format!("* = {word}\n");
     }
-    rules += "! option = geometry\n";
-    let mut left = total % fired;
-    while left > 0 {
-        let length = left.min(256);
-        rules += &format!("* = +{}\n", x(length - 1));
-        left -= length;
-    }
-    rules
+    rules + &additions("geometry", total % fired)
 }
 
 fn totals(list: &mut Vec<Case>) {
@@ -229,7 +222,7 @@ fn additions(component: &str, length: usize) -> String {
     let mut rules = format!("! option = {component}\n");
     let mut left = length;
     while left > 0 {
-        let piece = left.min(200);
+        let piece = left.min(256);
         rules += &format!("* = +{}\n", x(piece - 1));
         left -= piece;
     }
