@@ -5,7 +5,7 @@ use mathlib.Core.Path.{_≡_, refl, sym, ap, _∙_}
 use mathlib.Core.List.{List, [], _∷_, _++_, map, append-assoc}
 use mathlib.Core.Bool.{Bool, true, false, not, _||_, _&&_, cond}
 use lib.Dec.{eqb}
-use borrow.Author.Tests.{eqb-true}
+use borrow.Author.Tests.{eqb-true, eq-eqb}
 use Rattle.text.specs.Bytes.{Text, same, allOf, anyOf, concatMap, among, apart}
 
 -- tests
@@ -46,6 +46,11 @@ same-eq (b ∷ s) (c ∷ t) h =
     let x : b ≡ c = eqb-true b c (w .0) in
     let y : s ≡ t = same-eq s t (w .1) in
     cc
+
+pub same-self : (a : Text) → same a a ≡ true
+unfolding same
+same-self [] = refl
+same-self (b ∷ a) = rw (eq-eqb b b refl) (same-self a)
 
 -- lists
 

@@ -1,0 +1,223 @@
+-- One name more, put at its rank.
+use Prim.Native.Nat.{ℕ, zero, suc, _+_, _*_, _-_, _≤_, _<_}
+use native.Mathlib.Omega.{arith}
+use native.Mathlib.Numerals.{add-one}
+use mathlib.Core.Path.{_≡_, refl, sym, ap, _∙_}
+use mathlib.Core.List.{List, [], _∷_}
+use mathlib.Core.Bool.{Bool, true, false, _||_}
+use lib.Dec.{eqb, ltb}
+use lib.ListN.{length, getD, set, length-set}
+use lib.Seq.{getD-set-same, getD-set-other}
+use borrow.Author.Tests.{eqb-true, eqb-false, ltb-true, ltb-false}
+use Rattle.text.specs.Bytes.{Text, same, part, anyOf}
+use Rattle.text.proofs.Lists.{no, same-self}
+use Rattle.text.proofs.Pairs.{withPair, pair-length, pair-old, pair-new}
+use Rattle.lookup.specs.Names.{nameAt, namesAt, rankedAt, mostNames, before, Ranked, Named, Ranks, Shifted, Added}
+use Rattle.lookup.proofs.Ordering.{before-one}
+use Rattle.lookup.proofs.Ranking.{below-or, ranked-is}
+
+-- the loop of `make_room`: the numbers behind the rank k stand one further
+pub record Shifting (t t′ : List ℕ) (r n k : ℕ) : Type 0 where
+  pub low : r ≤ k
+  pub few : k ≤ n
+  pub size : length t′ ≡ 192
+  pub old : (j : ℕ) → j ≤ 128 + k → getD t′ j 0 ≡ getD t j 0
+  pub further : (i : ℕ) → k < i → i ≤ n → getD t′ (128 + i) 0 ≡ getD t (127 + i) 0
+
+pub shifting-start : (t : List ℕ) (r n : ℕ) → r ≤ n → length t ≡ 192 → Shifting t t r n n
+shifting-start t r n l z = record { low = l; few = omega arith; size = z; old = λ j a. refl; further = λ i a b. absurd (omega arith) }
+
+module _ (t t′ : List ℕ) (r n k : ℕ) where
+  pub shifting-more : n < mostNames → Shifting t t′ r n k → r < k → Shifting t (set t′ (128 + k) (getD t′ (127 + k) 0)) r n (k - 1)
+  shifting-more m v l =
+      record {
+        low = omega arith;
+        few = omega (arith, v .few);
+        size = simp length-set (v .size);
+        old = λ j a. getD-set-other t′ (128 + k) j (getD t′ (127 + k) 0) 0 (λ (z : j ≡ 128 + k). omega arith) ∙ v .old j (omega arith);
+        further = λ i a b. by i a b (eqb i k) refl;
+      }
+    where
+      by : (i : ℕ) → k - 1 < i → i ≤ n → (u : Bool) → eqb i k ≡ u → getD (set t′ (128 + k) (getD t′ (127 + k) 0)) (128 + i) 0 ≡ getD t (127 + i) 0
+      by i a b true q =
+          let c : i ≡ k = eqb-true i k q in
+          rw c (getD-set-same t′ (128 + k) (getD t′ (127 + k) 0) 0 (omega (arith, v .size, v .few)) ∙ v .old (127 + k) (omega arith))
+      by i a b false q =
+          getD-set-other t′ (128 + k) (128 + i) (getD t′ (127 + k) 0) 0 (λ (z : 128 + i ≡ 128 + k). eqb-false i k q (omega arith))
+          ∙ v .further i (below-or k i (omega arith) (λ z. eqb-false i k q (sym z))) b
+
+  pub shifting-end : Shifting t t′ r n k → k ≤ r → Shifted t t′ r n
+  shifting-end v l =
+      record { size = v .size; old = λ j a. v .old j (omega (arith, v .low)); further = λ i a b. v .further i (omega arith) b }
+
+-- a place behind the pairs
+pair-far : (t : List ℕ) (n a e j : ℕ) → 2 * n + 2 ≤ j → getD (withPair t n a e) j 0 ≡ getD t j 0
+unfolding withPair
+pair-far t n a e j l =
+    getD-set-other (set t (2 * n) a) (2 * n + 1) j e 0 (λ (z : j ≡ 2 * n + 1). omega arith) ∙ getD-set-other t (2 * n) j a 0 (λ (z : j ≡ 2 * n). omega arith)
+
+name-is : (s : Text) (t : List ℕ) (g : ℕ) → nameAt s t g ≡ part s (getD t (2 * g) 0) (getD t (2 * g + 1) 0)
+unfolding nameAt
+name-is s t g = refl
+
+-- a name that is none of the first n
+other-name : (s : Text) (t : List ℕ) (q : Text → Bool) (n g : ℕ) → g < n → anyOf q (namesAt s t n) ≡ false → q (nameAt s t g) ≡ false
+unfolding namesAt anyOf
+other-name s t q zero g l h = absurd (omega arith)
+other-name s t q (suc n) g l h = go (eqb g n) refl (q (nameAt s t n)) refl h (λ a b. other-name s t q n g a b)
+  where
+    go : (b : Bool) → eqb g n ≡ b → (x : Bool) → q (nameAt s t n) ≡ x → x || anyOf q (namesAt s t n) ≡ false →
+        (g < n → anyOf q (namesAt s t n) ≡ false → q (nameAt s t g) ≡ false) → q (nameAt s t g) ≡ false
+    go true e false y z f = let c : g ≡ n = eqb-true g n e in rw c y
+    go true e true y z f = absurd (no (sym z))
+    go false e false y z f = f (below-or g n (omega arith) (eqb-false g n e)) z
+    go false e true y z f = absurd (no (sym z))
+
+module _ (s : Text) (t t₁ : List ℕ) (n a e r : ℕ) (v : Named s t n) (l : n < mostNames) (h : Ranks s t n (part s a e) r) (m : Shifted t t₁ r n) where
+  -- the table at the end
+  abbrev t₂ : List ℕ
+  t₂ = set t₁ (128 + r) n
+
+  size₂ : length t₂ ≡ 192
+  size₂ = simp length-set (m .size)
+
+  pair₁ : (j : ℕ) → j < 128 → getD t₂ j 0 ≡ getD t j 0
+  pair₁ j k = getD-set-other t₁ (128 + r) j n 0 (λ (z : j ≡ 128 + r). omega arith) ∙ m .old j (omega arith)
+
+  old-pairs : (j : ℕ) → j < n → (getD (withPair t₂ n a e) (2 * j) 0 ≡ getD t (2 * j) 0) × (getD (withPair t₂ n a e) (2 * j + 1) 0 ≡ getD t (2 * j + 1) 0)
+  old-pairs j k =
+      let o = pair-old t₂ n a e j k in
+      (o .0 ∙ pair₁ (2 * j) (omega arith), o .1 ∙ pair₁ (2 * j + 1) (omega arith))
+
+  new-pair : (getD (withPair t₂ n a e) (2 * n) 0 ≡ a) × (getD (withPair t₂ n a e) (2 * n + 1) 0 ≡ e)
+  new-pair = pair-new t₂ n a e (omega (arith, size₂))
+
+  old-name : (g : ℕ) → g < n → nameAt s (withPair t₂ n a e) g ≡ nameAt s t g
+  old-name g k = rw (name-is s (withPair t₂ n a e) g, old-pairs g k .0, old-pairs g k .1) (sym (name-is s t g))
+
+  new-name : nameAt s (withPair t₂ n a e) n ≡ part s a e
+  new-name = rw (name-is s (withPair t₂ n a e) n, new-pair .0, new-pair .1)
+
+  -- the numbers below the rank, at it, and above it
+  number-below : (i : ℕ) → i < r → getD (withPair t₂ n a e) (128 + i) 0 ≡ getD t (128 + i) 0
+  number-below i k =
+      pair-far t₂ n a e (128 + i) (omega arith)
+      ∙ (getD-set-other t₁ (128 + r) (128 + i) n 0 (λ (z : 128 + i ≡ 128 + r). omega arith) ∙ m .old (128 + i) (omega arith))
+
+  number-at : getD (withPair t₂ n a e) (128 + r) 0 ≡ n
+  number-at = pair-far t₂ n a e (128 + r) (omega arith) ∙ getD-set-same t₁ (128 + r) n 0 (omega (arith, m .size, h .few))
+
+  number-above : (i : ℕ) → r ≤ i → i < n → getD (withPair t₂ n a e) (128 + (i + 1)) 0 ≡ getD t (128 + i) 0
+  number-above i k b =
+      let z : 127 + (i + 1) ≡ 128 + i = omega arith in
+      pair-far t₂ n a e (128 + (i + 1)) (omega arith)
+      ∙ (getD-set-other t₁ (128 + r) (128 + (i + 1)) n 0 (λ (y : 128 + (i + 1) ≡ 128 + r). omega arith)
+      ∙ (m .further (i + 1) (omega arith) (omega arith) ∙ ap (λ (j : ℕ). getD t j 0) z))
+
+  -- the names at these ranks
+  ranked-below : (i : ℕ) → i < r → rankedAt s (withPair t₂ n a e) i ≡ rankedAt s t i
+  ranked-below i k =
+      ranked-is s (withPair t₂ n a e) i
+      ∙ (ap (nameAt s (withPair t₂ n a e)) (number-below i k) ∙ (old-name (getD t (128 + i) 0) (v .numbers i (omega (arith, h .few))) ∙ sym (ranked-is s t i)))
+
+  ranked-at : rankedAt s (withPair t₂ n a e) r ≡ part s a e
+  ranked-at = ranked-is s (withPair t₂ n a e) r ∙ (ap (nameAt s (withPair t₂ n a e)) number-at ∙ new-name)
+
+  ranked-above : (i : ℕ) → r ≤ i → i < n → rankedAt s (withPair t₂ n a e) (i + 1) ≡ rankedAt s t i
+  ranked-above i k b =
+      ranked-is s (withPair t₂ n a e) (i + 1)
+      ∙ (ap (nameAt s (withPair t₂ n a e)) (number-above i k b) ∙ (old-name (getD t (128 + i) 0) (v .numbers i b) ∙ sym (ranked-is s t i)))
+
+  within₂ : a ≤ e → e ≤ length s → (j : ℕ) → j < n + 1 →
+      (getD (withPair t₂ n a e) (2 * j) 0 ≤ getD (withPair t₂ n a e) (2 * j + 1) 0) × (getD (withPair t₂ n a e) (2 * j + 1) 0 ≤ length s)
+  within₂ x y j k = by (ltb j n) refl
+    where
+      by : (u : Bool) → ltb j n ≡ u → (getD (withPair t₂ n a e) (2 * j) 0 ≤ getD (withPair t₂ n a e) (2 * j + 1) 0) × (getD (withPair t₂ n a e) (2 * j + 1) 0 ≤ length s)
+      by true q = let o = old-pairs j (ltb-true j n q) in rw (o .0, o .1) (v .within j (ltb-true j n q))
+      by false q = let c : j ≡ n = omega (arith, ltb-false j n q) in rw (c, new-pair .0, new-pair .1) (x, y)
+
+  -- a rank is below r, r, or one more than a rank from r on
+  cases : {C : ℕ → Type 0} → ((i : ℕ) → i < r → C i) → C r → ((i : ℕ) → r ≤ i → i < n → C (i + 1)) → (i : ℕ) → i < n + 1 → C i
+  cases {C} f x g i k = by (ltb i r) refl (eqb i r) refl
+    where
+      by : (p : Bool) → ltb i r ≡ p → (q : Bool) → eqb i r ≡ q → C i
+      by true p q z = f i (ltb-true i r p)
+      by false p true z = let c : i ≡ r = eqb-true i r z in rw c x
+      by false p false z =
+          let c : r < i = below-or r i (ltb-false i r p) (λ y. eqb-false i r z (sym y)) in
+          let d : i ≡ i - 1 + 1 = omega arith in
+          rw d (g (i - 1) (omega arith) (omega arith))
+
+  numbers₂ : (i : ℕ) → i < n + 1 → getD (withPair t₂ n a e) (128 + i) 0 < n + 1
+  numbers₂ =
+      cases {C = λ i. getD (withPair t₂ n a e) (128 + i) 0 < n + 1}
+      (λ i k. let z = v .numbers i (omega (arith, h .few)) in rw (number-below i k) (omega arith))
+      (rw number-at (omega arith))
+      (λ i k b. let z = v .numbers i b in rw (number-above i k b) (omega arith))
+
+  ranks₂ : (g : ℕ) → g < n + 1 → Ranked (withPair t₂ n a e) (n + 1) g
+  ranks₂ g k = by (ltb g n) refl
+    where
+      old : (w : Ranked t n g) → (u : Bool) → ltb (w .rank) r ≡ u → Ranked (withPair t₂ n a e) (n + 1) g
+      old w true q =
+          record { rank = w .rank; few = omega (arith, w .few); number = number-below (w .rank) (ltb-true (w .rank) r q) ∙ w .number }
+      old w false q =
+          record { rank = w .rank + 1; few = omega (arith, w .few); number = number-above (w .rank) (ltb-false (w .rank) r q) (w .few) ∙ w .number }
+
+      by : (u : Bool) → ltb g n ≡ u → Ranked (withPair t₂ n a e) (n + 1) g
+      by true q = let w = v .ranks g (ltb-true g n q) in old w (ltb (w .rank) r) refl
+      by false q = let c : g ≡ n = omega (arith, ltb-false g n q) in record { rank = r; few = omega (arith, h .few); number = number-at ∙ sym c }
+
+  module _ (d : anyOf (same (part s a e)) (namesAt s t n) ≡ false) where
+    -- the new name stands before those from its rank on
+    before-above : (i : ℕ) → r ≤ i → i < n → before (part s a e) (rankedAt s t i) ≡ true
+    before-above i k b = by (before (part s a e) (rankedAt s t i)) refl
+      where
+        by : (u : Bool) → before (part s a e) (rankedAt s t i) ≡ u → before (part s a e) (rankedAt s t i) ≡ true
+        by true q = q
+        by false q =
+            let c : part s a e ≡ rankedAt s t i = before-one (part s a e) (rankedAt s t i) q (h .above i k b) in
+            let o : same (part s a e) (nameAt s t (getD t (128 + i) 0)) ≡ false = other-name s t (same (part s a e)) n (getD t (128 + i) 0) (v .numbers i b) d in
+            absurd (no (sym o ∙ (ap (same (part s a e)) (sym (ranked-is s t i) ∙ sym c) ∙ same-self (part s a e))))
+
+    rising₂ : (i j : ℕ) → i < j → j < n + 1 → before (rankedAt s (withPair t₂ n a e) i) (rankedAt s (withPair t₂ n a e) j) ≡ true
+    rising₂ i j k b =
+        cases {C = λ j. (i < j → before (rankedAt s (withPair t₂ n a e) i) (rankedAt s (withPair t₂ n a e) j) ≡ true)}
+        (λ j y k. rw (ranked-below i (omega arith), ranked-below j y) (v .rising i j k (omega (arith, h .few))))
+        (λ k. rw (ranked-below i k, ranked-at) (h .below i k))
+        (λ j y b k. upper j y b i k)
+        j b k
+      where
+        upper : (j : ℕ) → r ≤ j → j < n → (i : ℕ) → i < j + 1 → before (rankedAt s (withPair t₂ n a e) i) (rankedAt s (withPair t₂ n a e) (j + 1)) ≡ true
+        upper j y b i k =
+            cases {C = λ i. (i < j + 1 → before (rankedAt s (withPair t₂ n a e) i) (rankedAt s (withPair t₂ n a e) (j + 1)) ≡ true)}
+            (λ i z k. rw (ranked-below i z, ranked-above j y b) (v .rising i j (omega arith) b))
+            (λ k. rw (ranked-at, ranked-above j y b) (before-above j y b))
+            (λ i z c k. rw (ranked-above i z c, ranked-above j y b) (v .rising i j (omega arith) b))
+            i (omega arith) k
+
+    pub added : a ≤ e → e ≤ length s → Added s t (set (set (set t₁ (128 + r) n) (2 * n) a) (2 * n + 1) e) n a e
+    unfolding withPair
+    added x y =
+        record {
+          named =
+              record {
+                size = pair-length t₂ n a e ∙ size₂;
+                few = omega arith;
+                within = within₂ x y;
+                numbers = numbers₂;
+                ranks = ranks₂;
+                rising = rising₂;
+              };
+          old = old-pairs;
+          new = new-pair;
+        }
+
+-- the names after one more
+pub added-names : (s : Text) (t t′ : List ℕ) (n a e : ℕ) → Added s t t′ n a e → namesAt s t′ (n + 1) ≡ part s a e ∷ namesAt s t n
+unfolding namesAt nameAt
+added-names s t t′ n a e v = rw (add-one n, v .new .0, v .new .1, old n (omega arith))
+  where
+    old : (j : ℕ) → j ≤ n → namesAt s t′ j ≡ namesAt s t j
+    old zero k = refl
+    old (suc j) k = let o = v .old j (omega arith) in rw (o .0, o .1, old j (omega arith))

@@ -1,0 +1,177 @@
+-- A name looked for by halving, and its number.
+use Prim.Native.Nat.{ℕ, zero, suc, _+_, _*_, _-_, _/_, _≤_, _<_}
+use native.Mathlib.Omega.{arith}
+use mathlib.Core.Path.{_≡_, refl, sym, ap, _∙_}
+use mathlib.Core.List.{List, [], _∷_}
+use mathlib.Core.Bool.{Bool, true, false, _||_, cond}
+use lib.Dec.{eqb, ltb}
+use lib.ListN.{length, getD}
+use borrow.Author.Tests.{eqb-true, eqb-false, ltb-true, ltb-false, lt-ltb}
+use Rattle.text.specs.Bytes.{Text, same, part, anyOf}
+use Rattle.text.proofs.Lists.{no, same-eq}
+use Rattle.lookup.specs.Names.{nameAt, namesAt, rankedAt, numberOf, mostNames, before, Named, Ranks}
+use Rattle.lookup.proofs.Ordering.{before-self, before-through}
+
+pub below-or : (x y : ℕ) → x ≤ y → (x ≡ y → ⊥) → x < y
+below-or x y l d = by (ltb x y) refl
+  where
+    by : (u : Bool) → ltb x y ≡ u → x < y
+    by true z = ltb-true x y z
+    by false z = absurd (d (let k = ltb-false x y z in omega arith))
+
+-- the loop of `rank_of`: the names below `low` stand before w, those from `high` on do not
+pub record Halving (s : Text) (t : List ℕ) (n : ℕ) (w : Text) (low high : ℕ) : Type 0 where
+  pub between : low ≤ high
+  pub few : high ≤ n
+  pub below : (i : ℕ) → i < low → before (rankedAt s t i) w ≡ true
+  pub above : (i : ℕ) → high ≤ i → i < n → before (rankedAt s t i) w ≡ false
+
+module _ (s : Text) (t : List ℕ) (n : ℕ) (w : Text) (v : Named s t n) where
+  pub halving-start : Halving s t n w 0 n
+  halving-start = record { between = omega arith; few = omega arith; below = λ i a. absurd (omega arith); above = λ i a b. absurd (omega arith) }
+
+  module _ (low high : ℕ) (h : Halving s t n w low high) (l : low < high) (i : ℕ) (m : i ≡ low + (high - low) / 2) where
+    pub middle : (low ≤ i) × (i < high)
+    middle = (omega arith, omega arith)
+
+    pub halving-up : before (rankedAt s t i) w ≡ true → Halving s t n w (i + 1) high
+    halving-up e =
+        record {
+          between = omega (arith, middle .1);
+          few = h .few;
+          below = λ j a. by j a (eqb j i) refl;
+          above = h .above;
+        }
+      where
+        by : (j : ℕ) → j < i + 1 → (u : Bool) → eqb j i ≡ u → before (rankedAt s t j) w ≡ true
+        by j a true q = let c : j ≡ i = eqb-true j i q in rw c e
+        by j a false q =
+            let c : j < i = below-or j i (omega arith) (eqb-false j i q) in
+            before-through (rankedAt s t j) (rankedAt s t i) w (v .rising j i c (omega (arith, middle .1, h .few))) e
+
+    pub halving-down : before (rankedAt s t i) w ≡ false → Halving s t n w low i
+    halving-down e = record { between = middle .0; few = omega (arith, middle .1, h .few); below = h .below; above = λ j a b. by j a b (eqb i j) refl }
+      where
+        by : (j : ℕ) → i ≤ j → j < n → (u : Bool) → eqb i j ≡ u → before (rankedAt s t j) w ≡ false
+        by j a b true q = let c : i ≡ j = eqb-true i j q in rw (sym c) e
+        by j a b false q = off (before (rankedAt s t j) w) refl
+          where
+            off : (r : Bool) → before (rankedAt s t j) w ≡ r → before (rankedAt s t j) w ≡ false
+            off false z = z
+            off true z =
+                absurd (no (sym e ∙ before-through (rankedAt s t i) (rankedAt s t j) w (v .rising i j (below-or i j a (eqb-false i j q)) b) z))
+
+  pub halving-end : (low high : ℕ) → Halving s t n w low high → high ≤ low → Ranks s t n w low
+  halving-end low high h l =
+      record { few = omega (arith, h .between, h .few); below = h .below; above = λ i a b. h .above i (omega (arith, h .between)) b }
+
+-- what a number stands for
+
+number-suc : (s : Text) (t : List ℕ) (n : ℕ) (w : Text) → numberOf s t (suc n) w ≡ cond (same w (nameAt s t n)) n (numberOf s t n w)
+unfolding numberOf
+number-suc s t n w = refl
+
+number-none : (s : Text) (t : List ℕ) (w : Text) → numberOf s t 0 w ≡ mostNames
+unfolding numberOf
+number-none s t w = refl
+
+-- a number below 64 is that of a name
+pub number-named : (s : Text) (t : List ℕ) (w : Text) (n : ℕ) → n ≤ mostNames → ltb (numberOf s t n w) mostNames ≡ anyOf (same w) (namesAt s t n)
+unfolding numberOf namesAt anyOf
+number-named s t w zero l = refl
+number-named s t w (suc n) l = by (same w (nameAt s t n)) (number-named s t w n (omega arith))
+  where
+    by : (b : Bool) → ltb (numberOf s t n w) mostNames ≡ anyOf (same w) (namesAt s t n) →
+        ltb (cond b n (numberOf s t n w)) mostNames ≡ b || anyOf (same w) (namesAt s t n)
+    by true e = lt-ltb n mostNames (omega arith)
+    by false e = e
+
+-- no name is w
+none-named : (s : Text) (t : List ℕ) (w : Text) (n : ℕ) → ((g : ℕ) → g < n → same w (nameAt s t g) ≡ false) → numberOf s t n w ≡ mostNames
+none-named s t w zero f = number-none s t w
+none-named s t w (suc n) f = number-suc s t n w ∙ rw (f n (omega arith)) (none-named s t w n (λ g l. f g (omega arith)))
+
+-- one name is w, and no later one
+one-named : (s : Text) (t : List ℕ) (w : Text) (n g : ℕ) → g < n → same w (nameAt s t g) ≡ true → ((k : ℕ) → g < k → k < n → same w (nameAt s t k) ≡ false) →
+    numberOf s t n w ≡ g
+one-named s t w zero g l e f = absurd (omega arith)
+one-named s t w (suc n) g l e f = number-suc s t n w ∙ by (eqb g n) refl (λ k. one-named s t w n g k e (λ j a b. f j a (omega arith)))
+  where
+    by : (u : Bool) → eqb g n ≡ u → (g < n → numberOf s t n w ≡ g) → cond (same w (nameAt s t n)) n (numberOf s t n w) ≡ g
+    by true q r = let c : g ≡ n = eqb-true g n q in let d : same w (nameAt s t n) ≡ true = ap (λ (k : ℕ). same w (nameAt s t k)) (sym c) ∙ e in rw d (sym c)
+    by false q r =
+        let c : g < n = below-or g n (omega arith) (eqb-false g n q) in
+        rw (f n c (omega arith)) (r c)
+
+pub ranked-is : (s : Text) (t : List ℕ) (i : ℕ) → rankedAt s t i ≡ nameAt s t (getD t (128 + i) 0)
+unfolding rankedAt
+ranked-is s t i = refl
+
+module _ (s : Text) (t : List ℕ) (n : ℕ) (v : Named s t n) where
+  -- a name by its rank
+  at-rank : (g : ℕ) (l : g < n) → rankedAt s t (v .ranks g l .rank) ≡ nameAt s t g
+  at-rank g l = ranked-is s t (v .ranks g l .rank) ∙ ap (nameAt s t) (v .ranks g l .number)
+
+  -- no two names are alike
+  rank-apart : (i j : ℕ) → i < j → j < n → rankedAt s t i ≡ rankedAt s t j → ⊥
+  rank-apart i j l k e =
+      no (sym (before-self (rankedAt s t j)) ∙ (ap (λ (x : Text). before x (rankedAt s t j)) (sym e) ∙ v .rising i j l k))
+
+  alike-rank : (i j : ℕ) → i < n → j < n → rankedAt s t i ≡ rankedAt s t j → i ≡ j
+  alike-rank i j k l e = by (ltb i j) refl (ltb j i) refl
+    where
+      by : (a : Bool) → ltb i j ≡ a → (b : Bool) → ltb j i ≡ b → i ≡ j
+      by true p b q = absurd (rank-apart i j (ltb-true i j p) l e)
+      by false p true q = absurd (rank-apart j i (ltb-true j i q) k (sym e))
+      by false p false q = omega (arith, ltb-false i j p, ltb-false j i q)
+
+  module _ (w : Text) (r : ℕ) (h : Ranks s t n w r) where
+    -- a name that is w has the rank r
+    alike-here : (g : ℕ) (l : g < n) → same w (nameAt s t g) ≡ true → v .ranks g l .rank ≡ r
+    alike-here g l e = by (ltb (v .ranks g l .rank) r) refl
+      where
+        same-name : w ≡ rankedAt s t (v .ranks g l .rank)
+        same-name = same-eq w (nameAt s t g) e ∙ sym (at-rank g l)
+
+        by : (u : Bool) → ltb (v .ranks g l .rank) r ≡ u → v .ranks g l .rank ≡ r
+        by true q =
+            absurd (no (sym (before-self w) ∙ (ap (λ (x : Text). before x w) same-name ∙ h .below (v .ranks g l .rank) (ltb-true (v .ranks g l .rank) r q))))
+        by false q = at (eqb r (v .ranks g l .rank)) refl
+          where
+            at : (u : Bool) → eqb r (v .ranks g l .rank) ≡ u → v .ranks g l .rank ≡ r
+            at true z = sym (eqb-true r (v .ranks g l .rank) z)
+            at false z =
+                let c : r < v .ranks g l .rank = below-or r (v .ranks g l .rank) (ltb-false (v .ranks g l .rank) r q) (eqb-false r (v .ranks g l .rank) z) in
+                let d : before (rankedAt s t r) (rankedAt s t (v .ranks g l .rank)) ≡ true = v .rising r (v .ranks g l .rank) c (v .ranks g l .few) in
+                absurd (no (sym (h .above r (omega arith) (omega (arith, c, v .ranks g l .few))) ∙ (ap (before (rankedAt s t r)) same-name ∙ d)))
+
+    pub find-end : n ≤ r → mostNames ≡ numberOf s t n w
+    find-end k = sym (none-named s t w n (λ g l. off g l (same w (nameAt s t g)) refl))
+      where
+        off : (g : ℕ) → g < n → (b : Bool) → same w (nameAt s t g) ≡ b → same w (nameAt s t g) ≡ false
+        off g l false e = e
+        off g l true e = let c = alike-here g l e in absurd (let d = v .ranks g l .few in omega arith)
+
+    pub find-other : r < n → same w (nameAt s t (getD t (128 + r) 0)) ≡ false → mostNames ≡ numberOf s t n w
+    find-other k d = sym (none-named s t w n (λ g l. off g l (same w (nameAt s t g)) refl))
+      where
+        off : (g : ℕ) → g < n → (b : Bool) → same w (nameAt s t g) ≡ b → same w (nameAt s t g) ≡ false
+        off g l false e = e
+        off g l true e =
+            let c : v .ranks g l .rank ≡ r = alike-here g l e in
+            let f : getD t (128 + r) 0 ≡ g = ap (λ (i : ℕ). getD t (128 + i) 0) (sym c) ∙ v .ranks g l .number in
+            absurd (no (sym d ∙ (ap (λ (k : ℕ). same w (nameAt s t k)) f ∙ e)))
+
+    pub find-this : r < n → same w (nameAt s t (getD t (128 + r) 0)) ≡ true → getD t (128 + r) 0 ≡ numberOf s t n w
+    find-this k e = sym (one-named s t w n (getD t (128 + r) 0) (v .numbers r k) e (λ g a b. off g a b (same w (nameAt s t g)) refl))
+      where
+        off : (g : ℕ) → getD t (128 + r) 0 < g → g < n → (b : Bool) → same w (nameAt s t g) ≡ b → same w (nameAt s t g) ≡ false
+        off g a l false e = e
+        off g a l true e =
+            let c : v .ranks g l .rank ≡ r = alike-here g l e in
+            let f : getD t (128 + r) 0 ≡ g = ap (λ (i : ℕ). getD t (128 + i) 0) (sym c) ∙ v .ranks g l .number in
+            absurd (omega arith)
+
+-- what the loop has seen of a name, by its number
+pub seen : (s : Text) (t : List ℕ) (w x : Text) (i : ℕ) (r b : Bool) → x ≡ nameAt s t (getD t (128 + i) 0) → r ≡ before x w → r ≡ b → before (rankedAt s t i) w ≡ b
+seen s t w x i r b e f g = ap (λ (y : Text). before y w) (ranked-is s t i ∙ sym e) ∙ (sym f ∙ g)
