@@ -213,6 +213,22 @@ module _ (s : Text) (t t₁ : List ℕ) (n a e r : ℕ) (v : Named s t n) (l : n
           new = new-pair;
         }
 
+pub named-none : (s : Text) (t : List ℕ) → length t ≡ 192 → Named s t 0
+named-none s t z =
+    record {
+      size = z;
+      few = omega arith;
+      within = λ j l. absurd (omega arith);
+      numbers = λ i l. absurd (omega arith);
+      ranks = λ g l. absurd (omega arith);
+      rising = λ i j k l. absurd (omega arith);
+    }
+
+pub names-length : (s : Text) (t : List ℕ) (n : ℕ) → length (namesAt s t n) ≡ n
+unfolding namesAt
+names-length s t zero = refl
+names-length s t (suc n) = ap suc (names-length s t n)
+
 -- the names after one more
 pub added-names : (s : Text) (t t′ : List ℕ) (n a e : ℕ) → Added s t t′ n a e → namesAt s t′ (n + 1) ≡ part s a e ∷ namesAt s t n
 unfolding namesAt nameAt

@@ -86,6 +86,15 @@ number-named s t w (suc n) l = by (same w (nameAt s t n)) (number-named s t w n 
     by true e = lt-ltb n mostNames (omega arith)
     by false e = e
 
+pub number-few : (s : Text) (t : List ℕ) (w : Text) (n : ℕ) → numberOf s t n w < mostNames → numberOf s t n w < n
+unfolding numberOf
+number-few s t w zero l = absurd (omega arith)
+number-few s t w (suc n) l = by (same w (nameAt s t n)) l (number-few s t w n)
+  where
+    by : (b : Bool) → cond b n (numberOf s t n w) < mostNames → (numberOf s t n w < mostNames → numberOf s t n w < n) → cond b n (numberOf s t n w) < suc n
+    by true k f = omega arith
+    by false k f = let d = f k in omega arith
+
 -- no name is w
 none-named : (s : Text) (t : List ℕ) (w : Text) (n : ℕ) → ((g : ℕ) → g < n → same w (nameAt s t g) ≡ false) → numberOf s t n w ≡ mostNames
 none-named s t w zero f = number-none s t w

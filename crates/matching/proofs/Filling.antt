@@ -10,12 +10,11 @@ use lib.Dec.{eqb, leb, ltb}
 use borrow.Author.Tests.{ne-eqb, eqb-false, le-leb, lt-leb, ltb-true, ltb-false}
 use Rattle.text.specs.Bytes.{Text, Words, same, anyOf, part}
 use Rattle.text.specs.Reading.{left, FoundWord, NoWord}
-use Rattle.text.proofs.Lists.{both-ways, same-eq}
+use Rattle.text.proofs.Lists.{both-ways, same-eq, same-self}
 use Rattle.profile.specs.Profile.{Texts, Profile, textsOf, profileOf, fields, optionsOf}
-use Rattle.rules.specs.Checking.{namesAt}
 use Rattle.matching.specs.Groups.{asked, Rowed}
 use Rattle.matching.specs.Rows.{HasValues, MarkedFor, QuestionMarked, Marked, Cleared, RowFilled}
-use Rattle.matching.proofs.GroupRows.{asked-none, same-self}
+use Rattle.matching.proofs.GroupRows.{asked-none}
 use Rattle.matching.proofs.Matches.{any-alike, option-never}
 
 pub same-turned : (a b : Text) → same a b ≡ same b a
@@ -319,9 +318,8 @@ module _ (s : Text) (at : ℕ) (x : Texts) (r₀ r₁ : List Bool) (g : ℕ) (u 
 
 -- one group more: the rows of the groups before it stay
 pub rowed-more : (p : Profile) (s : Text) (t t′ : List ℕ) (rows rows′ : List Bool) (n at : ℕ) → Rowed p s t rows n → RowFilled s at p rows rows′ n →
-    ((g : ℕ) → g < n → getD t′ (2 * g + 1) 0 ≡ getD t (2 * g + 1) 0) → getD t′ (2 * n + 1) 0 ≡ at →
-    ((g : ℕ) → g < n + 1 → anyOf (same (part s (getD t′ (2 * g) 0) (getD t′ (2 * g + 1) 0))) (namesAt s t′ g) ≡ false) → Rowed p s t′ rows′ (n + 1)
-rowed-more p s t t′ rows rows′ n at u v o e d = record { size = v .size; apart = d; row = λ g j l m. go g j l m (ltb g n) refl }
+    ((g : ℕ) → g < n → getD t′ (2 * g + 1) 0 ≡ getD t (2 * g + 1) 0) → getD t′ (2 * n + 1) 0 ≡ at → Rowed p s t′ rows′ (n + 1)
+rowed-more p s t t′ rows rows′ n at u v o e = record { size = v .size; row = λ g j l m. go g j l m (ltb g n) refl }
   where
     go : (g j : ℕ) → g < n + 1 → j < 10 → (b : Bool) → ltb g n ≡ b → getD rows′ (10 * g + j) false ≡ asked p j (drop 1 (left s (getD t′ (2 * g + 1) 0)))
     go g j l m true b =
@@ -332,7 +330,7 @@ rowed-more p s t t′ rows rows′ n at u v o e d = record { size = v .size; apa
         rw (k, e) (v .new j m)
 
 pub rowed-none : (p : Profile) (s : Text) (t : List ℕ) (rows : List Bool) → length rows ≡ 640 → Rowed p s t rows 0
-rowed-none p s t rows z = record { size = z; apart = λ g l. absurd (omega arith); row = λ g j l m. absurd (omega arith) }
+rowed-none p s t rows z = record { size = z; row = λ g j l m. absurd (omega arith) }
 
 -- the loop of `mark_words`, for whichever texts have the values
 pub record WordsFor (s : Text) (at : ℕ) (vs : List Text) (o : Text) (rows rows′ : List Bool) (g i l : ℕ) : Type 0 where

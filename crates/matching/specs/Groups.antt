@@ -9,14 +9,14 @@ use Rattle.text.specs.Bytes.{Text, Words, same, anyOf, part}
 use Rattle.text.specs.Reading.{left}
 use Rattle.profile.specs.Profile.{Profile}
 use Rattle.rules.specs.Faults.{Group, Groups}
-use Rattle.rules.specs.Checking.{Named, namesAt}
+use Rattle.lookup.specs.Names.{Named, nameAt, namesAt}
 
--- The first n groups of the file s, the last first. The table holds start and end of each name; behind the name stand `=` and the group's words.
+-- The first n groups of the file s, the last first. Behind a listed name stand `=` and the group's words.
 unfoldable pub groupsAt : Text → List ℕ → ℕ → Groups
 groupsAt s t zero = []
 groupsAt s t (suc n) =
     record {
-      name = part s (getD t (2 * n) 0) (getD t (2 * n + 1) 0);
+      name = nameAt s t n;
       members = drop 1 (left s (getD t (2 * n + 1) 0));
     } ∷
     groupsAt s t n
@@ -29,10 +29,9 @@ asked p j ms =
     (cond (leb j 8) (anyOf (same (getD (p .variants) (j - 5) [])) ms)
     (p .anyOption (λ v. anyOf (same v) ms))))
 
--- the answers for the first n groups, ten for each; no two of them have one name
+-- the answers for the first n groups, ten for each
 pub record Rowed (p : Profile) (s : Text) (t : List ℕ) (rows : List Bool) (n : ℕ) : Type 0 where
   pub size : length rows ≡ 640
-  pub apart : (g : ℕ) → g < n → anyOf (same (part s (getD t (2 * g) 0) (getD t (2 * g + 1) 0))) (namesAt s t g) ≡ false
   pub row : (g j : ℕ) → g < n → j < 10 → getD rows (10 * g + j) false ≡ asked p j (drop 1 (left s (getD t (2 * g + 1) 0)))
 
 -- one group more, whose name stands from a to e

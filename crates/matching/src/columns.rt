@@ -10,7 +10,7 @@ ghost use Rattle.text.specs.Limits.{mostOptions};
 ghost use Rattle.text.specs.Bytes.{same as sameText, anyOf};
 ghost use Rattle.profile.specs.Profile.{textsOf, profileOf, fields, optionsOf};
 ghost use Rattle.profile.specs.Listing.{Listed};
-ghost use Rattle.rules.specs.Checking.{Named};
+ghost use Rattle.lookup.specs.Names.{Named};
 ghost use Rattle.answers.specs.Matching.{members};
 ghost use Rattle.matching.specs.Groups.{groupsAt, Rowed};
 ghost use Rattle.matching.specs.Rows.{Told, ofWord, ofStar, ofValue, matchesAt};
@@ -28,7 +28,7 @@ fn word_matches(
     w: &[u8],
     value: &[u8],
     s: &[u8],
-    names: &[usize; 128],
+    names: &[usize; 192],
     rows: &[bool; 640],
     n: usize,
     j: usize,
@@ -48,7 +48,7 @@ fn value_matches(
     w: &[u8],
     value: &[u8],
     s: &[u8],
-    names: &[usize; 128],
+    names: &[usize; 192],
     rows: &[bool; 640],
     n: usize,
     j: usize,
@@ -67,7 +67,7 @@ fn model_matches(
     w: &[u8],
     model: &[u8],
     s: &[u8],
-    names: &[usize; 128],
+    names: &[usize; 192],
     rows: &[bool; 640],
     n: usize,
 ) -> bool
@@ -84,10 +84,10 @@ fn model_matches(
 fn option_matches(
     w: &[u8],
     options: &[u8],
-    table: &[usize; 128],
+    table: &[usize; 192],
     count: usize,
     s: &[u8],
-    names: &[usize; 128],
+    names: &[usize; 192],
     rows: &[bool; 640],
     n: usize,
 ) -> bool
@@ -114,14 +114,14 @@ pub fn column_matches(
     layout: &[u8],
     variant: &[u8],
     s: &[u8],
-    names: &[usize; 128],
+    names: &[usize; 192],
     rows: &[bool; 640],
     n: usize,
     model: &[u8],
     layouts: &[u8],
     variants: &[u8],
     options: &[u8],
-    table: &[usize; 128],
+    table: &[usize; 192],
     count: usize,
 ) -> bool
     requires { ⌜ Named (now s) (now names) n
@@ -160,14 +160,14 @@ pub fn left_word(
     k: usize,
     layout: &[u8],
     variant: &[u8],
-    names: &[usize; 128],
+    names: &[usize; 192],
     rows: &[bool; 640],
     n: usize,
     model: &[u8],
     layouts: &[u8],
     variants: &[u8],
     options: &[u8],
-    table: &[usize; 128],
+    table: &[usize; 192],
     count: usize,
 ) -> LeftWord
     requires { ⌜ Within (now s) (now t) fence from line

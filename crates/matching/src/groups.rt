@@ -9,9 +9,11 @@ ghost use Rattle.text.specs.Limits.{mostOptions, mostGroups};
 ghost use Rattle.text.specs.Reading.{left, Table, Fenced, Within, Passed};
 ghost use Rattle.profile.specs.Profile.{textsOf, profileOf, optionsOf};
 ghost use Rattle.profile.specs.Listing.{Listed};
-ghost use Rattle.rules.specs.Checking.{Named, namesAt};
+ghost use Rattle.lookup.specs.Names.{Named, namesAt};
 ghost use Rattle.matching.specs.Groups.{Rowed, Noted};
 ghost use Rattle.matching.specs.Rows.{Told, ofGroup, MarkedFor, QuestionMarked, Cleared, RowFilled};
+use lookup::names::add;
+use lookup::names::find;
 use profile::fields::field;
 use profile::table::has_option;
 use text::LineStart;
@@ -19,10 +21,10 @@ use text::Next;
 use text::compare::same;
 use text::reader::word_at;
 
-// Question j of the group of this name; no, if there is none. Only names of groups whose answer is yes are compared: no two groups have one name.
+// Question j of the group of this name; no, if there is none.
 pub fn group_asked(
     s: &[u8],
-    names: &[usize; 128],
+    names: &[usize; 192],
     rows: &[bool; 640],
     n: usize,
     name: &[u8],
@@ -32,19 +34,11 @@ pub fn group_asked(
     ensures { λ r. ⌜ Told (now (s .entry)) (now (names .entry)) (now (rows .entry)) n
         (ofGroup (now (s .entry)) (now (names .entry)) n (now (name .entry)) j) r ⌝ }
 {
-    let mut k = n;
-    while 0 < k {
-        k -= 1;
-        if !rows[10 * k + j] {
-            continue;
-        }
-        let start = names[2 * k];
-        let end = names[2 * k + 1];
-        if same(name, &s[start..end]) {
-            return true;
-        }
+    let g = find(s, names, n, name);
+    if 64 <= g {
+        return false;
     }
-    false
+    rows[10 * g + j]
 }
 
 // Question j of row g, for one word: whether it is the value.
@@ -70,7 +64,7 @@ fn mark_word(
     v3: &[u8],
     v4: &[u8],
     options: &[u8],
-    table: &[usize; 128],
+    table: &[usize; 192],
     count: usize,
     rows: &mut [bool; 640],
     g: usize,
@@ -110,7 +104,7 @@ fn mark_words(
     v3: &[u8],
     v4: &[u8],
     options: &[u8],
-    table: &[usize; 128],
+    table: &[usize; 192],
     count: usize,
     rows: &mut [bool; 640],
     g: usize,
@@ -184,7 +178,7 @@ pub fn fill_row(
     layouts: &[u8],
     variants: &[u8],
     options: &[u8],
-    table: &[usize; 128],
+    table: &[usize; 192],
     count: usize,
     rows: &mut [bool; 640],
     g: usize,
@@ -241,7 +235,7 @@ pub fn fill_row(
     }
 }
 
-// One group more: its name's place is kept, and its row filled. Where the line after it starts; `line` is the physical line that the name stands in.
+// One group more: its name is listed, and its row filled. Where the line after it starts; `line` is the physical line that the name stands in.
 pub fn note_group(
     s: &[u8],
     t: &[u8; 512],
@@ -249,12 +243,12 @@ pub fn note_group(
     start: usize,
     end: usize,
     line: usize,
-    names: &mut [usize; 128],
+    names: &mut [usize; 192],
     model: &[u8],
     layouts: &[u8],
     variants: &[u8],
     options: &[u8],
-    table: &[usize; 128],
+    table: &[usize; 192],
     count: usize,
     rows: &mut [bool; 640],
     g: usize,
@@ -274,8 +268,7 @@ pub fn note_group(
         (now (s .entry)) (now (names .entry)) (now (names .exit)) (now (rows .exit)) g start end
         × Passed (now (s .entry)) end line (r .at) (r .line) ⌝ }
 {
-    names[2 * g] = start;
-    names[2 * g + 1] = end;
+    add(s, names, g, start, end);
     fill_row(
         s,
         t,

@@ -4,7 +4,11 @@ ghost use lib.ListN.{length, take};
 ghost use Rattle.text.specs.Limits.{mostOptions};
 ghost use Rattle.text.specs.Bytes.{same as sameText, anyOf};
 ghost use Rattle.profile.specs.Profile.{optionsOf};
-ghost use Rattle.profile.specs.Listing.{Listed};
+ghost use Rattle.profile.specs.Listing.{Listed, OneMore};
+ghost use Prim.Native.Nat.{_≤_, _<_};
+ghost use Rattle.lookup.specs.Names.{Named, mostNames};
+use lookup::names::add;
+use lookup::names::has_name;
 
 // How many options a text has, empty fields dropped.
 pub fn option_count(options: &[u8]) -> usize
@@ -24,22 +28,40 @@ pub fn option_count(options: &[u8]) -> usize
     n
 }
 
-// Fills the table with the start and the end of each of the first 64 options, and says how many there are. The rest of the table is 0.
-pub fn list_options(options: &[u8], table: &mut [usize; 128]) -> usize
+// Lists one option more, from `start` to `end`, unless it is listed: how many there are.
+fn list_option(
+    options: &[u8],
+    table: &mut [usize; 192],
+    count: usize,
+    start: usize,
+    end: usize,
+) -> usize
+    requires { ⌜ Named (now options) (now table) count × (count < mostNames) × (start ≤ end) × (end ≤ length (now options)) ⌝ }
+    ensures { λ r. ⌜ OneMore (now (options .entry)) (now (table .entry)) (now (table .exit)) count start end r ⌝ }
+{
+    if has_name(options, table, count, &options[start..end]) {
+        return count;
+    }
+    add(options, table, count, start, end);
+    count + 1
+}
+
+// Lists the first 64 options, each once, and says how many are listed.
+pub fn list_options(options: &[u8], table: &mut [usize; 192]) -> usize
     ensures { λ r. ⌜ Listed (now (options .entry)) (now (table .exit)) r ⌝ }
 {
-    *table = [0; 128];
+    *table = [0; 192];
     let mut count: usize = 0;
+    let mut seen: usize = 0;
     let mut start: usize = 0;
     while start < options.len() {
-        if 64 <= count {
+        if 64 <= seen {
             return count;
         }
         let e = crate::fields::field_end(options, start);
         if start < e {
-            table[2 * count] = start;
-            table[2 * count + 1] = e;
-            count += 1;
+            count = list_option(options, table, count, start, e);
+            seen += 1;
             start = e + 1;
         } else {
             start = e + 1;
@@ -48,23 +70,10 @@ pub fn list_options(options: &[u8], table: &mut [usize; 128]) -> usize
     count
 }
 
-// Any of the first 64 options is the word. Only options of the word's length are compared.
-pub fn has_option(options: &[u8], table: &[usize; 128], count: usize, word: &[u8]) -> bool
+// Any of the first 64 options is the word.
+pub fn has_option(options: &[u8], table: &[usize; 192], count: usize, word: &[u8]) -> bool
     requires { ⌜ Listed (now options) (now table) count ⌝ }
     ensures { λ r. ⌜ r ≡ anyOf (sameText (now (word .entry))) (take mostOptions (optionsOf (now (options .entry)))) ⌝ }
 {
-    let mut i: usize = 0;
-    while i < count {
-        let a = table[2 * i];
-        let e = table[2 * i + 1];
-        if e - a == word.len() {
-            if text::compare::same(word, &options[a..e]) {
-                return true;
-            }
-            i += 1;
-        } else {
-            i += 1;
-        }
-    }
-    false
+    has_name(options, table, count, word)
 }

@@ -10,7 +10,8 @@ use Rattle.text.specs.Lines.{lines}
 use Rattle.text.specs.Reading.{follow}
 use Rattle.profile.specs.Profile.{Profile}
 use Rattle.rules.specs.Faults.{lineFaults}
-use Rattle.rules.specs.Checking.{namesAt, Ready, leftFaults}
+use Rattle.lookup.specs.Names.{namesAt}
+use Rattle.rules.specs.Checking.{Ready, leftFaults}
 use Rattle.rules.proofs.FileChecks.{start, scan-start, no-lines}
 use Rattle.firing.specs.declared.Cursors.{Cursors}
 use Rattle.resolver.specs.declared.Walk.{Walk}
@@ -35,7 +36,7 @@ unfolding leftFirings groupsAt follow lines
 fires-all p s t = sym (firings-start s p)
 
 module _ (p : Profile) (s : Text) (d₀ : Text) (q₀ : Cursors) where
-  pub walk-start : (t : List ℕ) (rows : List Bool) → length t ≡ 128 → length rows ≡ 640 → lineFaults s ≡ [] → Low (q₀ .at) →
+  pub walk-start : (t : List ℕ) (rows : List Bool) → length t ≡ 192 → length rows ≡ 640 → lineFaults s ≡ [] → Low (q₀ .at) →
       WalkGoing p s d₀ q₀ t rows d₀ (record { progress = start; cursors = q₀ })
   walk-start t rows a b c l =
       let v = scan-start s t a in

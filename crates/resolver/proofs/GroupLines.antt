@@ -19,10 +19,11 @@ use Rattle.rules.specs.declared.LineKind.the-variants as kind
 use Rattle.rules.specs.Words.{hasDollar}
 use Rattle.rules.specs.Entries.{Entry, group, entryOf}
 use Rattle.rules.specs.Splitting.{wordsOf}
-use Rattle.rules.specs.Checking.{lineOf, noHeading, lineFault, checkFrom, IsKind, namesAt, Adds, Ready, leftFaults}
+use Rattle.lookup.specs.Names.{namesAt}
+use Rattle.rules.specs.Checking.{lineOf, noHeading, lineFault, checkFrom, IsKind, Adds, Ready, leftFaults}
 use Rattle.rules.proofs.Fresh.{as-none}
 use Rattle.rules.proofs.CheckSteps.{check-cons, entry-any, left-is, carried, carries-group}
-use Rattle.rules.proofs.GroupNames.{names-length}
+use Rattle.lookup.proofs.Adding.{names-length}
 use Rattle.firing.specs.declared.Cursors.{Cursors}
 use Rattle.firing.specs.Writing.{Low, runBuf, runCur}
 use Rattle.matching.specs.Groups.{groupsAt, Noted}

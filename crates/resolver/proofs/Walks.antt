@@ -24,7 +24,8 @@ use Rattle.rules.specs.Sections.{applies}
 use Rattle.rules.specs.Sets.{Holds, IsSet}
 use Rattle.rules.specs.Faults.{Groups}
 use Rattle.rules.specs.Splitting.{wordsOf, IsSplit}
-use Rattle.rules.specs.Checking.{lineOf, formOf, lineFault, presentOf, checkFrom, IsKind, namesAt, Ready, leftFaults, Onward}
+use Rattle.lookup.specs.Names.{namesAt}
+use Rattle.rules.specs.Checking.{lineOf, formOf, lineFault, presentOf, checkFrom, IsKind, Ready, leftFaults, Onward}
 use Rattle.rules.proofs.Fresh.{as-none}
 use Rattle.rules.proofs.CheckSteps.{check-cons, entry-any, left-is, line-read, line-high, line-few, step-set}
 use Rattle.firing.specs.declared.Cursors.{Cursors}

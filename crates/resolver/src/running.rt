@@ -11,7 +11,8 @@ ghost use Rattle.output.specs.Store.{farthest};
 ghost use Rattle.profile.specs.Profile.{fields, optionsOf, textsOf, profileOf};
 ghost use Rattle.profile.specs.Listing.{Listed};
 ghost use Rattle.profile.specs.Bounds.{Bounds};
-ghost use Rattle.rules.specs.Checking.{Named, presentOf, checkFrom, namesAt};
+ghost use Rattle.lookup.specs.Names.{Named, namesAt};
+ghost use Rattle.rules.specs.Checking.{presentOf, checkFrom};
 ghost use Rattle.values.specs.Filling.{Short};
 ghost use Rattle.matching.specs.Groups.{groupsAt, Rowed};
 ghost use Rattle.answers.specs.Layouts.{perLayout};
@@ -94,7 +95,7 @@ pub fn run_set(
     t: &[u8; 512],
     fence: usize,
     places: &mut [usize],
-    names: &[usize; 128],
+    names: &[usize; 192],
     rows: &[bool; 640],
     groups: usize,
     h: SetHeading,
@@ -104,7 +105,7 @@ pub fn run_set(
     variants: &[u8],
     bounds: &[usize; 16],
     options: &[u8],
-    table: &[usize; 128],
+    table: &[usize; 192],
     listed: usize,
     n: usize,
     k: usize,
@@ -206,7 +207,7 @@ pub fn run_layouts(
     t: &[u8; 512],
     fence: usize,
     places: &mut [usize],
-    names: &[usize; 128],
+    names: &[usize; 192],
     rows: &[bool; 640],
     groups: usize,
     h: SetHeading,
@@ -216,7 +217,7 @@ pub fn run_layouts(
     variants: &[u8],
     bounds: &[usize; 16],
     options: &[u8],
-    table: &[usize; 128],
+    table: &[usize; 192],
     listed: usize,
     n: usize,
     first: usize,
@@ -278,7 +279,7 @@ pub fn run_heading(
     t: &[u8; 512],
     fence: usize,
     places: &mut [usize],
-    names: &[usize; 128],
+    names: &[usize; 192],
     rows: &[bool; 640],
     groups: usize,
     h: SetHeading,
@@ -287,7 +288,7 @@ pub fn run_heading(
     variants: &[u8],
     bounds: &[usize; 16],
     options: &[u8],
-    table: &[usize; 128],
+    table: &[usize; 192],
     listed: usize,
     n: usize,
     start: usize,

@@ -29,7 +29,8 @@ use Rattle.rules.specs.declared.Split.{Split}
 use Rattle.rules.specs.Words.{hasDollar, isGroupName}
 use Rattle.rules.specs.Entries.{Entry, ignored, wrong, group, set, rule, entryOf}
 use Rattle.rules.specs.Splitting.{wordsOf, IsWord, IsSplit}
-use Rattle.rules.specs.Checking.{lineOf, noHeading, presentFault, lineFault, presentAfter, namesAfter, checkFrom, namesFrom, IsSetLine, IsKind, namesAt, Named, Adds, Ready, leftFaults, leftNames, Onward, Steps}
+use Rattle.lookup.specs.Names.{namesAt, Named}
+use Rattle.rules.specs.Checking.{lineOf, noHeading, presentFault, lineFault, presentAfter, namesAfter, checkFrom, namesFrom, IsSetLine, IsKind, Adds, Ready, leftFaults, leftNames, Onward, Steps}
 use Rattle.rules.specs.Plain.{LineRead}
 use Rattle.rules.proofs.Numbers.{goodEntry, entry-good}
 
@@ -105,7 +106,7 @@ names-is s t p = refl
 
 -- what a line carries on: its refusal, and where there is none the names and the heading after it
 pub record Carries (s t t′ : Text) (p r : Progress) (e : Entry) : Type 0 where
-  pub size : length t′ ≡ 128
+  pub size : length t′ ≡ 192
   pub fault : r .fault ≡ lineFault (namesAt s t (p .groups)) (p .present) e
   pub named : r .fault ≡ 0 → Named s t′ (r .groups)
   pub names : r .fault ≡ 0 → namesAt s t′ (r .groups) ≡ namesAfter (namesAt s t (p .groups)) e

@@ -23,7 +23,9 @@ use Rattle.rules.specs.declared.Progress.{Progress}
 use Rattle.rules.specs.declared.Checked.{Checked}
 use Rattle.rules.specs.Faults.{lineFaults, fileRefusals}
 use Rattle.rules.specs.Names.{definesOf}
-use Rattle.rules.specs.Checking.{lineOf, noHeading, checkFrom, namesFrom, namesAt, Named, Ready, leftFaults, leftNames, Onward, Steps, toHeading, fromHeading, mostHeads, HeadAt, Heads, Lists, Checks}
+use Rattle.lookup.specs.Names.{namesAt}
+use Rattle.lookup.proofs.Adding.{named-none}
+use Rattle.rules.specs.Checking.{lineOf, noHeading, checkFrom, namesFrom, Ready, leftFaults, leftNames, Onward, Steps, toHeading, fromHeading, mostHeads, HeadAt, Heads, Lists, Checks}
 use Rattle.rules.proofs.LineChecks.{lines-checked, defines-named}
 
 -- what has been read of the file is right, and the rest is as it was
@@ -37,13 +39,10 @@ pub record Listing (s u : Text) (n at line : ℕ) : Type 0 where
   pub heads : Heads s u n
   pub next : n < mostHeads → fromHeading n (lines s) ≡ toHeading (follow s at line)
 
-named-none : (s t : Text) → length t ≡ 128 → Named s t 0
-named-none s t h = record { size = h; few = omega arith; within = λ j (l : j < 0). absurd (omega arith) }
-
 abbrev pub start : Progress
 start = record { at = 0; line = 1; groups = 0; present = noHeading; fault = 0; heading = false }
 
-pub scan-start : (s t : Text) → length t ≡ 128 → Scanning s t start
+pub scan-start : (s t : Text) → length t ≡ 192 → Scanning s t start
 unfolding leftFaults leftNames namesAt follow lines
 scan-start s t h =
     record {
@@ -71,7 +70,7 @@ first-none = refl
 heads-none : (s u : Text) → length u ≡ 2 * mostHeads → Heads s u 0
 heads-none s u h = record { size = h; few = omega arith; head = λ k (l : k < 0). absurd (omega arith) }
 
-pub long-file : (s t u : Text) → length t ≡ 128 → length u ≡ 2 * mostHeads → longestFile < length s →
+pub long-file : (s t u : Text) → length t ≡ 192 → length u ≡ 2 * mostHeads → longestFile < length s →
     Checks s t u (record { refusal = record { number = 3; place = 0 }; groups = 0; heads = 0 })
 unfolding fileRefusals refusedIf firstRefusal
 long-file s t u z y h =

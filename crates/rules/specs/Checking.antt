@@ -1,4 +1,4 @@
--- The lines of a file, checked one by one: what is carried from line to line are the names of the groups so far and the present heading.
+-- The lines of a file, checked one by one: what is carried from line to line are the names of the groups so far, listed in a table, and the present heading.
 use Prim.Native.Nat.{ℕ, zero, suc, _+_, _*_, _≤_, _<_}
 use mathlib.Core.Path.{_≡_}
 use mathlib.Core.List.{List, [], _∷_, _++_}
@@ -11,6 +11,7 @@ use Rattle.text.specs.Bytes.{Text, Words, same, rest, allOf, anyOf, part}
 use Rattle.text.specs.Refusals.{refusedAs, firstRefusal}
 use Rattle.text.specs.Lines.{Line, lines}
 use Rattle.text.specs.Reading.{follow}
+use Rattle.lookup.specs.Names.{namesAt, Named}
 use Rattle.rules.specs.declared.Present.{Present}
 use Rattle.rules.specs.declared.LineKind.{LineKind}
 use Rattle.rules.specs.declared.LineKind.the-variants as kind
@@ -93,20 +94,9 @@ IsKind ws e kind.Group = (e ≡ group (rest (getD ws 0 [])) (drop 2 ws)) × (2 �
 IsKind ws e (kind.Set p) = IsSetLine e p
 IsKind ws e kind.Rule = e ≡ rule ws
 
--- The names of the first n groups, the last first: the table holds start and end of each name.
-unfoldable pub namesAt : Text → Text → ℕ → List Text
-namesAt s t zero = []
-namesAt s t (suc n) = part s (getD t (2 * n) 0) (getD t (2 * n + 1) 0) ∷ namesAt s t n
-
--- each name lies in the file
-pub record Named (s t : Text) (n : ℕ) : Type 0 where
-  pub size : length t ≡ 128
-  pub few : n ≤ mostGroups
-  pub within : (j : ℕ) → j < n → (getD t (2 * j) 0 ≤ getD t (2 * j + 1) 0) × (getD t (2 * j + 1) 0 ≤ length s)
-
 -- one group more, with the name from a to e: its refusal, 10 or 0, and the table after it
 pub record Adds (s t t′ : Text) (n a e r : ℕ) : Type 0 where
-  pub size : length t′ ≡ 128
+  pub size : length t′ ≡ 192
   pub fault : r ≡ cond (anyOf (same (part s a e)) (namesAt s t n) || leb mostGroups (length (namesAt s t n))) 10 0
   pub named : r ≡ 0 → Named s t′ (n + 1)
   pub names : r ≡ 0 → namesAt s t′ (n + 1) ≡ part s a e ∷ namesAt s t n
@@ -136,7 +126,7 @@ pub record Onward (s t t′ : Text) (p r : Progress) : Type 0 where
   pub read : follow s (p .at) (p .line) ≡ lineOf (p .line) (r .heading) words ∷ follow s (r .at) (r .line)
 
 pub record Steps (s t t′ : Text) (p r : Progress) : Type 0 where
-  pub size : length t′ ≡ 128
+  pub size : length t′ ≡ 192
   pub wrong : (r .fault ≡ 0 → ⊥) → firstRefusal (leftFaults s t p) ≡ record { number = r .fault; place = p .line }
   pub right : r .fault ≡ 0 → Onward s t t′ p r
 

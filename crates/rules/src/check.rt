@@ -6,8 +6,9 @@ ghost use lib.Dec.{leb};
 ghost use lib.ListN.{length};
 ghost use Rattle.text.specs.Bytes.{same as sameText, anyOf, part};
 ghost use Rattle.text.specs.Reading.{Table, Fenced};
+ghost use Rattle.lookup.specs.Names.{Named};
 ghost use Rattle.rules.specs.Splitting.{wordsOf, IsSplit};
-ghost use Rattle.rules.specs.Checking.{namesAt, Named, Adds, Ready, Steps, Lists, Checks};
+ghost use Rattle.rules.specs.Checking.{Adds, Ready, Steps, Lists, Checks};
 use super::Checked;
 use super::LineKind;
 use super::Present;
@@ -16,42 +17,25 @@ use super::judge::line_kind;
 use super::judge::rule_fault;
 use super::lines::split_line;
 use super::plain::line_end;
+use lookup::names::add;
+use lookup::names::has_name;
 use text::Refusal;
-use text::compare::same;
 use text::reader::fence_of;
 use text::reader::open_line;
 use text::table::TABLE;
 
-// Whether one of the groups so far has the name.
-fn is_named(s: &[u8], names: &[usize; 128], groups: usize, name: &[u8]) -> bool
-    requires { ⌜ Named (now s) (now names) groups ⌝ }
-    ensures { λ r. ⌜ r ≡ anyOf (sameText (now (name .entry))) (namesAt (now (s .entry)) (now (names .entry)) groups) ⌝ }
-{
-    let mut k = groups;
-    while 0 < k {
-        k -= 1;
-        let start = names[2 * k];
-        let end = names[2 * k + 1];
-        if same(name, &s[start..end]) {
-            return true;
-        }
-    }
-    false
-}
-
 // One group more, with the name from `start` to `end`: refusal 10, or 0 and its place is kept.
-fn add_group(s: &[u8], names: &mut [usize; 128], groups: usize, start: usize, end: usize) -> usize
+fn add_group(s: &[u8], names: &mut [usize; 192], groups: usize, start: usize, end: usize) -> usize
     requires { ⌜ Named (now s) (now names) groups × (start ≤ end) × (end ≤ length (now s)) ⌝ }
     ensures { λ r. ⌜ Adds (now (s .entry)) (now (names .entry)) (now (names .exit)) groups start end r ⌝ }
 {
-    if is_named(s, names, groups, &s[start..end]) {
+    if has_name(s, names, groups, &s[start..end]) {
         return 10;
     }
     if 64 <= groups {
         return 10;
     }
-    names[2 * groups] = start;
-    names[2 * groups + 1] = end;
+    add(s, names, groups, start, end);
     0
 }
 
@@ -71,7 +55,7 @@ fn check_words(
     t: &[u8; 512],
     fence: usize,
     places: &mut [usize],
-    names: &mut [usize; 128],
+    names: &mut [usize; 192],
     p: Progress,
 ) -> Progress
     requires { ⌜ Table (now t) × Fenced (now s) fence × (length (now places) ≡ 20) × Ready (now s) (now names) p × (p .at < length (now s)) ⌝ }
@@ -148,7 +132,7 @@ fn check_line(
     t: &[u8; 512],
     fence: usize,
     places: &mut [usize],
-    names: &mut [usize; 128],
+    names: &mut [usize; 192],
     p: Progress,
 ) -> Progress
     requires { ⌜ Table (now t) × Fenced (now s) fence × (length (now places) ≡ 20) × Ready (now s) (now names) p × (p .at < length (now s)) ⌝ }
@@ -186,10 +170,10 @@ fn list_heading(heads: &mut [usize; 256], n: usize, heading: bool, at: usize, li
 }
 
 // The first refusal of a file, 3 to 10, or number 0; where the names of its groups stand, and where its first headings.
-pub fn check_file(s: &[u8], names: &mut [usize; 128], heads: &mut [usize; 256]) -> Checked
+pub fn check_file(s: &[u8], names: &mut [usize; 192], heads: &mut [usize; 256]) -> Checked
     ensures { λ r. ⌜ Checks (now (s .entry)) (now (names .exit)) (now (heads .exit)) r ⌝ }
 {
-    *names = [0; 128];
+    *names = [0; 192];
     *heads = [0; 256];
     if 65536 < s.len() {
         return Checked {

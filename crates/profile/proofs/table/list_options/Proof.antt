@@ -4,45 +4,29 @@ use lib.ListN.{length}
 use Rattle.profile.proofs.Listing.{Listing, listing-start, listing-field, listing-none, listing-full, listing-end}
 use Rattle.profile.proofs.table.list_options.Statement.{statement}
 use Rattle.profile.proofs.table.list_options.Tie as tie
+use Rattle.profile.proofs.fields.field_end.Reads as field-end-reads
+use Rattle.profile.proofs.table.list_option.Reads as list-option-reads
 
 abbrev Inv-loop : tie.InvT-loop
-Inv-loop options table₀ count₀ start₀ table count start = Listing options table count start
+Inv-loop options table₀ count₀ seen₀ start₀ table count seen start = Listing options table count seen start
 
 abbrev μ-loop : tie.MeasureT-loop
-μ-loop options table₀ count₀ start₀ table count start = length options - start
+μ-loop options table₀ count₀ seen₀ start₀ table count seen start = length options - start
 
 loop-holds : tie.Need-loop-holds Inv-loop μ-loop
 loop-holds c = listing-start _ _ (search needs)
 
 returns : tie.Need-returns Inv-loop μ-loop
-returns c = listing-full _ _ _ _ (c .before .before .loop .inv) (c .if1 .taken)
+returns c = listing-full _ _ _ _ _ (c .before .before .loop .inv) (c .if1 .taken)
 
 field-end-requires : tie.Need-field-end-requires Inv-loop μ-loop
 field-end-requires c κs = search needs
 
-mul-table : tie.Need-mul-table Inv-loop μ-loop
-mul-table c = search needs
+list-option-requires : tie.Need-list-option-requires Inv-loop μ-loop
+list-option-requires c κs = search needs
 
-mul-table-2 : tie.Need-mul-table-2 Inv-loop μ-loop
-mul-table-2 c = search needs
-
-element-write-table : tie.Need-element-write-table Inv-loop μ-loop
-element-write-table c = search needs
-
-mul-table-3 : tie.Need-mul-table-3 Inv-loop μ-loop
-mul-table-3 c = search needs
-
-add-table : tie.Need-add-table Inv-loop μ-loop
-add-table c = search needs
-
-mul-table-4 : tie.Need-mul-table-4 Inv-loop μ-loop
-mul-table-4 c = search needs
-
-element-write-table-2 : tie.Need-element-write-table-2 Inv-loop μ-loop
-element-write-table-2 c = search needs
-
-add-count : tie.Need-add-count Inv-loop μ-loop
-add-count c = search needs
+add-seen : tie.Need-add-seen Inv-loop μ-loop
+add-seen c = search needs
 
 add-start : tie.Need-add-start Inv-loop μ-loop
 add-start c = search needs
@@ -51,7 +35,7 @@ loop-less : tie.Need-loop-less Inv-loop μ-loop
 loop-less c = search needs
 
 loop-again : tie.Need-loop-again Inv-loop μ-loop
-loop-again c = listing-field _ _ _ _ (c .before .before .before .before .loop .inv) _ (c .before .field-end .ensures) (c .before .before .if1 .left) (c .if2 .taken)
+loop-again c = listing-field _ _ _ _ _ (c .before .before .before .before .before .before .loop .inv) _ (c .before .before .before .field-end .ensures) (c .before .before .before .before .if1 .left) (c .before .before .if2 .taken) _ _ (c .list-option .ensures)
 
 add-start-2 : tie.Need-add-start-2 Inv-loop μ-loop
 add-start-2 c = search needs
@@ -60,10 +44,10 @@ loop-less-2 : tie.Need-loop-less-2 Inv-loop μ-loop
 loop-less-2 c = search needs
 
 loop-again-2 : tie.Need-loop-again-2 Inv-loop μ-loop
-loop-again-2 c = listing-none _ _ _ _ (c .before .before .before .before .loop .inv) _ (c .before .field-end .ensures) (c .if2 .left)
+loop-again-2 c = listing-none _ _ _ _ _ (c .before .before .before .before .loop .inv) _ (c .before .field-end .ensures) (c .if2 .left)
 
 returns-2 : tie.Need-returns-2 Inv-loop μ-loop
-returns-2 c = listing-end _ _ _ _ (c .before .loop .inv) (c .loop-test .left)
+returns-2 c = listing-end _ _ _ _ _ (c .before .loop .inv) (c .loop-test .left)
 
 pub list-options-spec : {M : Type 1} → statement M
 list-options-spec =
@@ -74,14 +58,8 @@ list-options-spec =
     loop-holds
     returns
     field-end-requires
-    mul-table
-    mul-table-2
-    element-write-table
-    mul-table-3
-    add-table
-    mul-table-4
-    element-write-table-2
-    add-count
+    list-option-requires
+    add-seen
     add-start
     loop-less
     loop-again

@@ -10,7 +10,7 @@ use borrow.Author.Tests.{not-true, not-false}
 use Rattle.text.specs.Reading.{follow}
 use Rattle.text.proofs.Passing.{passing-then}
 use Rattle.profile.specs.Profile.{fields, textsOf, profileOf}
-use Rattle.rules.specs.Checking.{namesAt}
+use Rattle.lookup.specs.Names.{namesAt}
 use Rattle.answers.specs.Matching.{members}
 use Rattle.matching.specs.Groups.{groupsAt}
 use Rattle.matching.specs.Held.{headingBy}
