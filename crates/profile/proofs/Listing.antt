@@ -196,6 +196,10 @@ module _ (s : List ℕ) where
           held = λ w. v .held w ∙ ap (anyOf (same w)) (sym (rw (v .rest, options-end s start h, append-nil) (take-all mostOptions _ z)));
         }
 
+-- no option is listed
+pub listed-none : (s t : Text) (count : ℕ) (w : Text) → Listed s t count → count ≡ 0 → false ≡ anyOf (same w) (take mostOptions (optionsOf s))
+listed-none s t count w v e = sym (ap (anyOf (same w)) (ap (namesAt s t) e ∙ names-none s t) ∙ any-nil (same w)) ∙ v .held w
+
 -- a profile that is not refused has at most 64 options
 pub all-options : (w o : Text) → length (optionsOf o) ≤ mostOptions → anyOf (same w) (take mostOptions (optionsOf o)) ≡ anyOf (same w) (optionsOf o)
 all-options w o h = rw (take-all mostOptions (optionsOf o) h)

@@ -75,5 +75,8 @@ pub fn has_option(options: &[u8], table: &[usize; 192], count: usize, word: &[u8
     requires { ⌜ Listed (now options) (now table) count ⌝ }
     ensures { λ r. ⌜ r ≡ anyOf (sameText (now (word .entry))) (take mostOptions (optionsOf (now (options .entry)))) ⌝ }
 {
+    if count == 0 {
+        return false;
+    }
     has_name(options, table, count, word)
 }

@@ -17,6 +17,7 @@ pub fn all() -> Vec<Case> {
     texts(&mut list);
     counts(&mut list);
     groups(&mut list);
+    names(&mut list);
     totals(&mut list);
     long_texts(&mut list);
     headings(&mut list);
@@ -172,6 +173,51 @@ fn groups(list: &mut Vec<Case>) {
             format!("{lines}! $new = b\n{set}"),
         ] {
             list.push(Case::text(&rules, ["pc", "us", "", ""], ROOM));
+        }
+    }
+}
+
+/// Up to 64 names that are hard to tell apart, as groups and as options, listed in several orders: each of them is asked for, and names between them.
+fn names(list: &mut Vec<Case>) {
+    let letters: Vec<char> = ('0'..='9')
+        .chain('A'..='Z')
+        .chain('a'..='z')
+        .chain("_-".chars())
+        .collect();
+    let letter = |i: usize| letters[i];
+    let makers: [&dyn Fn(usize) -> String; 5] = [
+        &|i| letter(i).to_string(),
+        &|i| format!("a{}a", letter(i)),
+        &|i| format!("{}aaaaaaaa", letter(i)),
+        &|i| format!("aaaaaaaa{}", letter(i)),
+        &|i| x(i % 12 + 1) + &letter(i / 12).to_string(),
+    ];
+    for maker in makers {
+        for count in [1, 2, 3, 4, 7, 8, 9, 31, 32, 33, 63, 64] {
+            for step in [1, 5, 27, 63] {
+                // an order of all 64, of which `count` are listed
+                let listed: Vec<usize> = (0..count).map(|i| i * step % 64).collect();
+                let lines: String = listed
+                    .iter()
+                    .map(|&i| format!("! ${} = {}\n", maker(i), ["pc", "us o", ""][i % 3]))
+                    .collect();
+                let mut groups = format!("{lines}! model layout option = symbols\n");
+                let mut options = String::from("! option = symbols\n");
+                for i in 0..64 {
+                    let name = maker(i);
+                    groups +=
+                        &format!("${name} * * = +m{i}\n* ${name} * = +l{i}\n* * ${name} = +o{i}\n");
+                    options += &format!("{name} = +{i}\n");
+                }
+                let asked: Vec<String> = listed.iter().map(|&i| maker(i)).collect();
+                let asked = asked.join(",");
+                let again = format!("{asked},,{},o", maker(listed[0]));
+                for rules in [&groups, &options] {
+                    for text in ["o", &asked, &again] {
+                        list.push(Case::text(rules, ["pc", "us", "", text], FILE));
+                    }
+                }
+            }
         }
     }
 }
