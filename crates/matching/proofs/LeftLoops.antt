@@ -2,11 +2,11 @@
 use Prim.Native.Nat.{ℕ, _+_, _≤_, _<_}
 use native.Mathlib.Omega.{arith}
 use native.Mathlib.Numerals.{add-one}
-use mathlib.Core.Path.{_≡_, refl, sym, _∙_}
+use mathlib.Core.Path.{_≡_, refl, sym, ap, _∙_}
 use mathlib.Core.List.{List, [], _∷_}
 use mathlib.Core.Bool.{Bool, true, false, _&&_}
 use lib.ListN.{length, getD, drop, drop-of-length-le}
-use lib.Seq.{drop-cons}
+use lib.Seq.{drop-cons, drop-drop}
 use Rattle.text.specs.Bytes.{Text, Words, part}
 use Rattle.text.specs.Reading.{left, FoundWord, NoWord}
 use Rattle.text.proofs.Lists.{no}
@@ -18,7 +18,7 @@ use Rattle.answers.specs.Matching.{columnMatches, ruleMatches}
 use Rattle.matching.specs.declared.LeftWord.{LeftWord}
 use Rattle.matching.specs.Rows.{matchesAt}
 use Rattle.matching.specs.Held.{columnBy, headingBy, SetSized}
-use Rattle.matching.specs.Left.{leftMatches, LeftRead}
+use Rattle.matching.specs.Left.{leftMatches, LeftRead, LeftSide}
 use Rattle.matching.proofs.HeldHeadings.{columns-length, column-at, matches-by}
 
 -- one word
@@ -43,6 +43,7 @@ module _ (look : Text → Words) (p : Profile) (k : ℕ) where
         let y : columnMatches look p k (columnBy c) (part s a e) ≡ b = sym (z ∙ matches-by look p k c (part s a e)) in
         record {
           hit = λ t cs. rw (w .text, left-cons (columnBy c) cs (part s a e) (left s e), y, t) refl;
+          rest = λ t. sym (ap (drop 1) (w .text));
           miss = λ t cs. rw (w .text, left-cons (columnBy c) cs (part s a e) (left s e), y, t) refl;
           low = omega (arith, w .low, w .some);
           high = w .high;
@@ -54,6 +55,7 @@ module _ (look : Text → Words) (p : Profile) (k : ℕ) where
     read-none q l h few w =
         record {
           hit = λ t cs. absurd (no t);
+          rest = λ t. absurd (no t);
           miss = λ t cs. rw (w .none) (left-lacking (columnBy c) cs);
           low = omega arith;
           high = h;
@@ -64,17 +66,27 @@ module _ (look : Text → Words) (p : Profile) (k : ℕ) where
 -- the loop over the columns of a heading
 pub record LeftGoing (look : Text → Words) (p : Profile) (k : ℕ) (h : SetHeading) (s : Text) (from n i m c : ℕ) : Type 0 where
   pub passing : Passing s from n i m
+  pub behind : left s i ≡ drop c (left s from)
   pub rest : leftMatches look p k (headingBy h .columns) (left s from) ≡ leftMatches look p k (drop c (headingBy h .columns)) (left s i)
 
 module _ (look : Text → Words) (p : Profile) (k : ℕ) (h : SetHeading) (sized : SetSized h) (s : Text) (from n : ℕ) where
   pub left-start : from ≤ length s → n ≤ from + 1 → LeftGoing look p k h s from n from n 0
-  left-start g few = record { passing = passing-start s from n g few; rest = refl }
+  left-start g few = record { passing = passing-start s from n g few; behind = refl; rest = refl }
 
   module _ (i m c : ℕ) (v : LeftGoing look p k h s from n i m c) where
-    pub left-done : h .left ≤ c → leftMatches look p k (headingBy h .columns) (left s from) ≡ true
-    left-done g =
+    pub left-done : h .left ≤ c → c ≤ h .left → LeftSide look p k (headingBy h) s from n (record { matched = true; at = i; line = m })
+    left-done g f =
         let l : length (headingBy h .columns) ≤ c = rw (columns-length h sized) g in
-        v .rest ∙ rw (drop-of-length-le (headingBy h .columns) l) (left-nil look p k (left s i))
+        let e : length (headingBy h .columns) ≡ c = columns-length h sized ∙ omega arith in
+        record {
+          hit = λ t. v .rest ∙ rw (drop-of-length-le (headingBy h .columns) l) (left-nil look p k (left s i));
+          rest = λ t. v .behind ∙ ap (λ (j : ℕ). drop j (left s from)) (sym e);
+          miss = λ t. absurd (no (sym t));
+          low = v .passing .low;
+          high = v .passing .high;
+          few = v .passing .few;
+          onto = v .passing .onto;
+        }
 
     module _ (g : c < h .left) (r : LeftWord) (w : LeftRead look p k (columnBy (getD (h .columns) c 0)) s i m r) where
       column : drop c (headingBy h .columns) ≡ columnBy (getD (h .columns) c 0) ∷ drop (c + 1) (headingBy h .columns)
@@ -88,14 +100,21 @@ module _ (look : Text → Words) (p : Profile) (k : ℕ) (h : SetHeading) (sized
       left-more t =
           record {
             passing = record { low = omega (arith, v .passing .low, w .low); high = w .high; few = w .few; onto = v .passing .onto ∙ w .onto };
+            behind = w .rest t ∙ (ap (drop 1) (v .behind) ∙ drop-drop 1 c (left s from));
             rest = v .rest ∙ (rw column (w .hit t (drop (c + 1) (headingBy h .columns))));
           }
 
-      pub left-miss : r .matched ≡ false → leftMatches look p k (headingBy h .columns) (left s from) ≡ false
-      left-miss t = v .rest ∙ (rw column (w .miss t (drop (c + 1) (headingBy h .columns))))
-
-      pub left-onward : Passing s from n (r .at) (r .line)
-      left-onward = record { low = omega (arith, v .passing .low, w .low); high = w .high; few = w .few; onto = v .passing .onto ∙ w .onto }
+      pub left-miss : r .matched ≡ false → LeftSide look p k (headingBy h) s from n r
+      left-miss t =
+          record {
+            hit = λ y. absurd (no (sym t ∙ y));
+            rest = λ y. absurd (no (sym t ∙ y));
+            miss = λ y. v .rest ∙ (rw column (w .miss t (drop (c + 1) (headingBy h .columns))));
+            low = omega (arith, v .passing .low, w .low);
+            high = w .high;
+            few = w .few;
+            onto = v .passing .onto ∙ w .onto;
+          }
 
 -- A rule matches if its left words do, and a line without words does not where there is a column.
 module _ (look : Text → Words) (p : Profile) (k : ℕ) where

@@ -10,7 +10,7 @@ pub struct Range {
     pub count: usize,
 }
 
-// Whether a left word of a rule matches, and where it ends.
+// Whether a left word of a rule matches, or all of them, and where the last that was read ends.
 pub struct LeftWord {
     pub matched: bool,
     pub at: usize,

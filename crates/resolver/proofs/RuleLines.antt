@@ -1,38 +1,44 @@
 -- Lines that are no headings: read, fired, or passed over.
-use Prim.Native.Nat.{ℕ, _+_, _-_, _≤_, _<_}
+use Prim.Native.Nat.{ℕ, zero, suc, _+_, _-_, _≤_, _<_}
 use native.Mathlib.Omega.{arith}
 use native.Mathlib.Nat.{zero-add, add-comm}
 use mathlib.Core.Path.{_≡_, refl, sym, ap, _∙_}
 use mathlib.Core.List.{List, [], _∷_, map}
-use mathlib.Core.Bool.{Bool, true, false, cond}
+use mathlib.Core.Bool.{Bool, true, false, _||_, cond}
 use lib.ListN.{length, take, drop, length-drop}
 use lib.Seq.{drop-drop}
 use lib.Dec.{eqb}
 use Rattle.text.specs.declared.Place.the-variants.{Start, Space}
-use Rattle.text.specs.Bytes.{Text, Words}
+use Rattle.text.specs.Bytes.{Text, Words, anyOf}
 use Rattle.text.specs.Marks.{marks}
 use Rattle.text.specs.Lines.{Line, linesOf}
-use Rattle.text.specs.Words.{wordsFault}
+use Rattle.text.specs.Words.{tooLong, wordsFault}
 use Rattle.text.specs.Reading.{left, ahead, follow, Opens, Passed}
 use Rattle.text.proofs.Joined.{shifted, linesOf-shift}
 use Rattle.text.proofs.Readers.{lineAt, line-first}
 use Rattle.text.proofs.Lists.{no}
+use Rattle.text.proofs.Passing.{passing-then}
 use Rattle.profile.specs.Profile.{Profile, textsOf, profileOf}
 use Rattle.rules.specs.declared.Present.{Present}
 use Rattle.rules.specs.declared.Split.{Split}
 use Rattle.rules.specs.declared.SetHeading.{SetHeading}
 use Rattle.rules.specs.Entries.{wrong, ruleEntry, entryOf}
-use Rattle.rules.specs.Faults.{Groups}
+use Rattle.rules.specs.Faults.{Groups, rightWords}
 use Rattle.rules.specs.Splitting.{wordsOf, IsSplit}
 use Rattle.rules.specs.Checking.{lineOf, checkFrom}
 use Rattle.firing.specs.declared.Cursors.{Cursors}
 use Rattle.firing.specs.Writing.{ShortWords, FiredRule}
+use Rattle.matching.specs.declared.LeftWord.{LeftWord}
 use Rattle.matching.specs.Held.{headingBy, SetSized}
+use Rattle.matching.specs.Left.{LeftSide}
+use Rattle.matching.proofs.HeldHeadings.{columns-length}
+use Rattle.matching.proofs.LeftLoops.{some-left}
 use Rattle.resolver.specs.declared.HeadingAt.{HeadingAt}
-use Rattle.resolver.specs.Running.{firingsFrom, FiredLineOf, NextHeading}
+use Rattle.resolver.specs.declared.RuleRun.{RuleRun}
+use Rattle.resolver.specs.Running.{firingsFrom, FiredLine, RanLine, NextHeading}
 use Rattle.resolver.proofs.LineFirings.{nextFirings, firings-line}
 use Rattle.resolver.proofs.SetRuns.{clean-rest}
-use Rattle.resolver.proofs.SetLoops.{rule-told}
+use Rattle.resolver.proofs.SetLoops.{right-told, rule-any}
 
 -- a part of the file has the words of the file from there on
 pub words-from : (s : Text) (from : ℕ) (x : Text) → x ≡ drop from s → wordsOf x ≡ left s from
@@ -58,23 +64,70 @@ split-passed s u from m x r xe h few v₀ =
       onto = rw (y, add-comm (r .line) m, drop-drop (r .next) from s) refl;
     }
 
--- a rule's line that was split and fired
+-- the rest of a rule's line, from its `=` on, that was split and fired
 module _ (s u : Text) (from m : ℕ) (x : Text) (r : Split) (xe : x ≡ drop from s) (high : from ≤ length s) (few : m ≤ from + 1) (v : IsSplit false x u r)
-    (h : SetHeading) (sized : SetSized h) (asked : length (left s from) ≡ h .left + 1 + h .right) where
-  pub rule-count : r .tally .count ≡ h .left + 1 + h .right
+    (h : SetHeading) (sized : SetSized h) (asked : length (left s from) ≡ 1 + h .right) where
+  pub rule-count : r .tally .count ≡ 1 + h .right
   rule-count = v .count ∙ ap length (words-from s from x xe) ∙ asked
 
   pub rule-short : ShortWords (left s from) → ShortWords (wordsOf x)
   rule-short k = rw (words-from s from x xe) k
 
-  pub line-fired : (a b c : Text) (d d′ : Text) (q q′ : Cursors) (k : ℕ) →
-      FiredRule (profileOf (textsOf a b c [])) d d′ q q′ k (take (r .tally .count - (h .left + 1)) (h .components)) (drop (h .left + 1) (wordsOf x)) →
-      FiredLineOf (profileOf (textsOf a b c [])) (headingBy h) s from m d d′ q k (record { at = from + r .next; line = m + r .line; cursors = q′ })
-  line-fired a b c d d′ q q′ k f =
+  pub line-fired : (p : Profile) (d d′ : Text) (q q′ : Cursors) (k : ℕ) →
+      FiredRule p d d′ q q′ k (take (r .tally .count - 1) (h .components)) (drop 1 (wordsOf x)) →
+      FiredLine p (headingBy h .components) s from m d d′ q k (record { fired = true; at = from + r .next; line = m + r .line; cursors = q′ })
+  line-fired p d d′ q q′ k f =
       record {
-        fired = rw (words-from s from x xe) at (rule-told h sized a b c [] d d′ q q′ k (r .tally .count) (wordsOf x) rule-count f);
+        told = refl;
+        fires = rw (words-from s from x xe) at (right-told h sized p d d′ q q′ k (r .tally .count) (drop 1 (wordsOf x)) rule-count f);
         passed = split-passed s u from m x r xe high few v;
       }
+
+-- a line fired for a profile without its options
+pub line-any : (a b c o : Text) (cs : List ℕ) (s : Text) (from n : ℕ) (d d′ : Text) (q : Cursors) (k : ℕ) (r : RuleRun) →
+    FiredLine (profileOf (textsOf a b c [])) cs s from n d d′ q k r → FiredLine (profileOf (textsOf a b c o)) cs s from n d d′ q k r
+line-any a b c o cs s from n d d′ q k r f =
+    record { told = f .told; fires = rule-any a b c o d d′ q (r .cursors) k cs (drop 1 (left s from)) (f .fires); passed = f .passed }
+
+any-drop : (f : Text → Bool) (k : ℕ) (ws : Words) → anyOf f ws ≡ false → anyOf f (drop k ws) ≡ false
+unfolding anyOf
+any-drop f zero ws h = h
+any-drop f (suc k) [] h = refl
+any-drop f (suc k) (w ∷ ws) h = any-drop f k ws (go (f w) h)
+  where
+    go : (b : Bool) → b || anyOf f ws ≡ false → anyOf f ws ≡ false
+    go true e = absurd (no (sym e))
+    go false e = e
+
+-- a line run: its left words match and it fired, or they do not
+module _ (s : Text) (from n : ℕ) (h : SetHeading) (sized : SetSized h) (look : Text → Words) (p : Profile) (k : ℕ) (x : LeftWord)
+    (v : LeftSide look p k (headingBy h) s from n x) where
+  onward : (at l : ℕ) → Passed s (x .at) (x .line) at l → Passed s from n at l
+  onward at l w = passing-then s from n (x .at) (x .line) (record { low = v .low; high = v .high; few = v .few; onto = v .onto }) at l w
+
+  pub ran-past : (at l : ℕ) (d : Text) (q : Cursors) → x .matched ≡ false → Passed s (x .at) (x .line) at l →
+      RanLine look p (headingBy h) s from n d d q k (record { fired = false; at = at; line = l; cursors = q })
+  ran-past at l d q e w = record { hit = λ t. absurd (no t); miss = λ t. (v .miss e, refl, refl); passed = onward at l w }
+
+  module _ (e : x .matched ≡ true) where
+    -- behind the left words stand as many words as the heading asks
+    pub right-count : ((length (left s from) ≡ 0 → ⊥) → length (left s from) ≡ h .left + 1 + h .right) → length (left s (x .at)) ≡ 1 + h .right
+    right-count c =
+        let z = c (some-left look p k (headingBy h .columns) (left s from) (rw (columns-length h sized) (sized .some)) (v .hit e)) in
+        ap length (v .rest e) ∙ (length-drop (length (headingBy h .columns)) (left s from) ∙ rw (columns-length h sized) (omega (arith, z)))
+
+    pub right-short : ShortWords (left s from) → ShortWords (left s (x .at))
+    right-short c = rw (v .rest e) (any-drop tooLong (length (headingBy h .columns)) (left s from) c)
+
+    pub ran-fired : (d d′ : Text) (q : Cursors) (r : RuleRun) → FiredLine p (headingBy h .components) s (x .at) (x .line) d d′ q k r →
+        RanLine look p (headingBy h) s from n d d′ q k r
+    unfolding rightWords
+    ran-fired d d′ q r f =
+        record {
+          hit = λ t. (v .hit e, rw (v .rest e, drop-drop 1 (length (headingBy h .columns)) (left s from)) at (f .fires));
+          miss = λ t. absurd (no (sym t ∙ f .told));
+          passed = onward (r .at) (r .line) (f .passed);
+        }
 
 -- a line that is opened, with what is ahead of it
 pub line-opened : (s : Text) (at n : ℕ) (b : Bool) (from m : ℕ) → at < length s → b ≡ false → Opens s at n b from m →

@@ -12,7 +12,7 @@ use Rattle.text.specs.declared.Place.the-variants.{Start}
 use Rattle.text.specs.Bytes.{Text, Words}
 use Rattle.text.specs.Marks.{marks}
 use Rattle.text.specs.Lines.{Line, linesOf, words, heading}
-use Rattle.text.specs.Reading.{follow, Opens}
+use Rattle.text.specs.Reading.{left, follow, Opens}
 use Rattle.text.proofs.Positions.{lines-nil}
 use Rattle.text.proofs.Readers.{marks-nil, lineAt, line-first}
 use Rattle.profile.specs.Profile.{Profile, textsOf, profileOf}
@@ -29,9 +29,10 @@ use Rattle.matching.specs.Left.{leftMatches}
 use Rattle.answers.specs.Firings.{Firing, fired, ruleFires, setFires}
 use Rattle.firing.specs.Writing.{Low, runBuf, runCur, FiredRule}
 use Rattle.matching.specs.Held.{headingBy, SetSized}
-use Rattle.resolver.specs.Running.{rulesFrom, FiredSet}
-use Rattle.matching.proofs.HeldHeadings.{columns-length, components-length, components-are, right-are}
-use Rattle.matching.proofs.LeftLoops.{rule-left, none-left}
+use Rattle.resolver.specs.declared.RuleRun.{RuleRun}
+use Rattle.resolver.specs.Running.{rulesFrom, RanLine, FiredSet}
+use Rattle.matching.proofs.HeldHeadings.{columns-length, components-length, components-are}
+use Rattle.matching.proofs.LeftLoops.{rule-left, some-left}
 use Rattle.firing.proofs.Going.{Going, going-start, going-more, going-end}
 use Rattle.resolver.proofs.SetRuns.{CleanLine, clean-line, run-end, run-heading, run-ignored, run-miss, run-hit}
 
@@ -137,6 +138,29 @@ module _ (s : Text) (p : Profile) (gs : Groups) (h : Heading) (every : Bool) (k 
       go true z = set-pass d q at n v ws at′ n′ read high few (eqb-true (length ws) 0 z)
       go false z = set-differs d q at n v ws at′ n′ read high few (eqb-false (length ws) 0 z) e
 
+  -- a line that was run
+  module _ (some : 1 ≤ length (h .columns)) (d : Text) (q : Cursors) (at n : ℕ) (v : SetGoing d q at n) (from m : ℕ) (d′ : Text) (r : RuleRun)
+      (w : RanLine (members gs) p h s from m d d′ q k r) (read : follow s at n ≡ lineOf n false (left s from) ∷ follow s (r .at) (r .line)) where
+    some-words : r .fired ≡ true → length (left s from) ≡ 0 → ⊥
+    some-words e = some-left (members gs) p k (h .columns) (left s from) some (w .hit e .0)
+
+    matches : (e : r .fired ≡ true) → ruleMatches (members gs) p k (h .columns) (left s from) ≡ true
+    matches e = set-matches d q at n v (left s from) (r .at) (r .line) read (w .passed .high) (w .passed .few) (some-words e) (w .hit e .0)
+
+    pub set-last : r .fired ≡ true → every ≡ false → FiredSet p gs h every d₀ d′ q₀ (r .cursors) k ls₀
+    set-last e t =
+        set-once d q at n v (left s from) (r .at) (r .line) read (w .passed .high) (w .passed .few) (some-words e) (matches e) d′ (r .cursors) (w .hit e .1) t
+
+    pub set-ran : (r .fired ≡ true → every ≡ true) → SetGoing d′ (r .cursors) (r .at) (r .line)
+    set-ran t = go (r .fired) refl
+      where
+        go : (b : Bool) → r .fired ≡ b → SetGoing d′ (r .cursors) (r .at) (r .line)
+        go true e =
+            set-more d q at n v (left s from) (r .at) (r .line) read (w .passed .high) (w .passed .few) (some-words e) (matches e) d′ (r .cursors) (w .hit e .1) (t e)
+        go false e =
+            let x = w .miss e in
+            rw (x .1, x .2) (set-unmatched d q at n v (left s from) (r .at) (r .line) read (w .passed .high) (w .passed .few) (x .0))
+
 pub set-start : (s : Text) (p : Profile) (gs : Groups) (h : Heading) (every : Bool) (k : ℕ) (ns : List Text) (d : Text) (q : Cursors) (at n : ℕ) →
     at ≤ length s → n ≤ at + 1 → checkFrom ns (presentOf h) (follow s at n) ≡ [] → Low (q .at) → SetGoing s p gs h every k ns d q (follow s at n) d q at n
 set-start s p gs h every k ns d q at n a b c l = record { high = a; few = b; clean = c; going = going-start d q _ l }
@@ -150,24 +174,16 @@ rule-any m l v o d d′ q q′ k cs ws f =
       places = λ n. rw (rule-options m l v o n k cs ws) at (f .places n);
     }
 
-fired-as : (p : Profile) (d d′ : Text) (q q′ : Cursors) (k : ℕ) (cs cs′ : List ℕ) (ws ws′ : Words) → cs ≡ cs′ → ws ≡ ws′ →
-    FiredRule p d d′ q q′ k cs ws → FiredRule p d d′ q q′ k cs′ ws′
-fired-as p d d′ q q′ k cs cs′ ws ws′ e f v =
-    record {
-      bytes = λ l. v .bytes l ∙ ap (runBuf d q) (ap (λ (x : List ℕ). ruleFires p l k x ws) e ∙ ap (ruleFires p l k cs′) f);
-      places = λ l. v .places l ∙ ap (runCur q) (ap (λ (x : List ℕ). ruleFires p l k x ws) e ∙ ap (ruleFires p l k cs′) f);
-    }
-
 -- the right words of a rule with as many words as its heading asks
-pub rule-told : (r : SetHeading) (w : SetSized r) (m l v o : Text) (d d′ : Text) (q q′ : Cursors) (k n : ℕ) (ws : Words) → n ≡ r .left + 1 + r .right →
-    FiredRule (profileOf (textsOf m l v [])) d d′ q q′ k (take (n - (r .left + 1)) (r .components)) (drop (r .left + 1) ws) →
-    FiredRule (profileOf (textsOf m l v o)) d d′ q q′ k (headingBy r .components) (rightWords (headingBy r) ws)
-rule-told r w m l v o d d′ q q′ k n ws e f =
-    let z : n - (r .left + 1) ≡ r .right = omega arith in
-    fired-as (profileOf (textsOf m l v o)) d d′ q q′ k (take (n - (r .left + 1)) (r .components)) (headingBy r .components) (drop (r .left + 1) ws) (rightWords (headingBy r) ws)
-    (ap (λ (i : ℕ). take i (r .components)) z ∙ sym (components-are r w))
-    (sym (right-are r w ws))
-    (rule-any m l v o d d′ q q′ k (take (n - (r .left + 1)) (r .components)) (drop (r .left + 1) ws) f)
+pub right-told : (r : SetHeading) (w : SetSized r) (p : Profile) (d d′ : Text) (q q′ : Cursors) (k n : ℕ) (ws : Words) → n ≡ 1 + r .right →
+    FiredRule p d d′ q q′ k (take (n - 1) (r .components)) ws → FiredRule p d d′ q q′ k (headingBy r .components) ws
+right-told r w p d d′ q q′ k n ws e f =
+    let z : n - 1 ≡ r .right = omega arith in
+    let x : take (n - 1) (r .components) ≡ headingBy r .components = ap (λ (i : ℕ). take i (r .components)) z ∙ sym (components-are r w) in
+    record {
+      bytes = λ l. f .bytes l ∙ ap (λ (y : List ℕ). runBuf d q (ruleFires p l k y ws)) x;
+      places = λ l. f .places l ∙ ap (λ (y : List ℕ). runCur q (ruleFires p l k y ws)) x;
+    }
 
 pub words-asked : (r : SetHeading) (w : SetSized r) (ns : List Text) (n : ℕ) (ws : Words) (ls : List Line) → CleanLine ns (headingBy r) n ws ls → (length ws ≡ 0 → ⊥) →
     length ws ≡ r .left + 1 + r .right

@@ -3,8 +3,8 @@ use Prim.Native.Nat.{ℕ, _+_, _≤_, _<_}
 use mathlib.Core.Path.{_≡_}
 use mathlib.Core.List.{List, []}
 use mathlib.Core.Bool.{Bool, true, false}
-use lib.ListN.{length}
-use Rattle.text.specs.Bytes.{Text, concatMap}
+use lib.ListN.{length, drop}
+use Rattle.text.specs.Bytes.{Text, Words, concatMap}
 use Rattle.text.specs.Lines.{Line}
 use Rattle.text.specs.Reading.{left, follow, Passed, Opens}
 use Rattle.profile.specs.Profile.{Profile}
@@ -16,12 +16,13 @@ use Rattle.rules.specs.declared.Present.{Present}
 use Rattle.rules.specs.Checking.{checkFrom, Onward}
 use Rattle.firing.specs.declared.Cursors.{Cursors}
 use Rattle.resolver.specs.declared.Walk.{Walk}
-use Rattle.resolver.specs.declared.FiredLine.{FiredLine}
+use Rattle.resolver.specs.declared.RuleRun.{RuleRun}
 use Rattle.resolver.specs.declared.HeadingAt.{HeadingAt}
 use Rattle.answers.specs.Matching.{members}
 use Rattle.answers.specs.Firings.{Firing, setFires, headFires, firings, fileFirings}
 use Rattle.firing.specs.Writing.{Low, FiredRule, startingAt, runBuf, runCur}
 use Rattle.matching.specs.Groups.{groupsAt, Rowed}
+use Rattle.matching.specs.Left.{leftMatches}
 
 -- the rules from a line on, up to the next heading; and what fires from a line on
 unfoldable pub rulesFrom : List Line → List Rule
@@ -68,9 +69,17 @@ pub record FiredFile (p : Profile) (s d d′ : Text) (at at′ : List ℕ) : Typ
   pub bytes : d′ ≡ runBuf d (startingAt at) (fileFirings s p)
   pub places : at′ ≡ runCur (startingAt at) (fileFirings s p) .at
 
--- a rule's line from `from` on, in the physical line n, fired at the layout k; the next line is where the line ends
-pub record FiredLineOf (p : Profile) (h : Heading) (s : Text) (from n : ℕ) (d d′ : Text) (q : Cursors) (k : ℕ) (r : FiredLine) : Type 0 where
-  pub fired : FiredRule p d d′ q (r .cursors) k (h .components) (rightWords h (left s from))
+-- A rule's line from its `=` on, which stands behind `from` in the physical line n, fired at the layout k for the components cs; the next line is where the
+-- line ends.
+pub record FiredLine (p : Profile) (cs : List ℕ) (s : Text) (from n : ℕ) (d d′ : Text) (q : Cursors) (k : ℕ) (r : RuleRun) : Type 0 where
+  pub told : r .fired ≡ true
+  pub fires : FiredRule p d d′ q (r .cursors) k cs (drop 1 (left s from))
+  pub passed : Passed s from n (r .at) (r .line)
+
+-- a line that is no heading, run at the layout k: it fires if its left words match
+pub record RanLine (look : Text → Words) (p : Profile) (h : Heading) (s : Text) (from n : ℕ) (d d′ : Text) (q : Cursors) (k : ℕ) (r : RuleRun) : Type 0 where
+  pub hit : r .fired ≡ true → (leftMatches look p k (h .columns) (left s from) ≡ true) × FiredRule p d d′ q (r .cursors) k (h .components) (rightWords h (left s from))
+  pub miss : r .fired ≡ false → (leftMatches look p k (h .columns) (left s from) ≡ false) × (d′ ≡ d) × (r .cursors ≡ q)
   pub passed : Passed s from n (r .at) (r .line)
 
 -- The next heading from the line at `at` on, which has the number n: what fires and what is refused before it, for whatever groups and heading so far, is

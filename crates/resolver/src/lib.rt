@@ -10,8 +10,9 @@ pub struct Walk {
     pub cursors: firing::Cursors,
 }
 
-// A rule's line that was fired: where the next line starts, its number, and what was written.
-pub struct FiredLine {
+// A rule's line that was run: whether it fired, where the next line starts, its number, and what was written.
+pub struct RuleRun {
+    pub fired: bool,
     pub at: usize,
     pub line: usize,
     pub cursors: firing::Cursors,

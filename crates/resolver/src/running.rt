@@ -2,8 +2,8 @@
 ghost use mathlib.Core.Path.{_≡_};
 ghost use mathlib.Core.List.{[]};
 ghost use mathlib.Core.Bool.{true};
-ghost use Prim.Native.Nat.{_+_, _≤_, _<_};
-ghost use lib.ListN.{length};
+ghost use Prim.Native.Nat.{_+_, _-_, _≤_, _<_};
+ghost use lib.ListN.{length, getD};
 ghost use Rattle.text.specs.Limits.{mostOptions};
 ghost use Rattle.text.specs.Bytes.{anyOf};
 ghost use Rattle.text.specs.Reading.{Table, Fenced, Within, left, follow};
@@ -16,14 +16,15 @@ ghost use Rattle.rules.specs.Checking.{presentOf, checkFrom};
 ghost use Rattle.values.specs.Filling.{Short};
 ghost use Rattle.matching.specs.Groups.{groupsAt, Rowed};
 ghost use Rattle.answers.specs.Layouts.{perLayout};
+ghost use Rattle.answers.specs.Matching.{members};
 ghost use Rattle.firing.specs.Writing.{Low, ShortWords};
 ghost use Rattle.matching.specs.Held.{headingBy, SetSized};
-ghost use Rattle.resolver.specs.Running.{FiredLineOf, FiredSet, FiredRange, FiredHeading};
+ghost use Rattle.resolver.specs.Running.{FiredLine, RanLine, FiredSet, FiredRange, FiredHeading};
 ghost use Rattle.matching.specs.Ranges.{FromOne};
-use super::FiredLine;
+use super::RuleRun;
 use firing::Cursors;
 use firing::rule::fire_rule;
-use matching::columns::left_word;
+use matching::columns::left_words;
 use matching::ranges::has_options;
 use matching::ranges::layout_range;
 use profile::fields::LAYOUTS;
@@ -36,7 +37,7 @@ use text::reader::open_line;
 use text::reader::pass_line;
 use values::fill::place;
 
-// A rule whose left words match, its line from `from` on: its right words fire at the layout k.
+// A rule whose left words match, its line from behind them on: its right words fire at the layout k.
 fn fire_line(
     s: &[u8],
     t: &[u8; 512],
@@ -54,13 +55,13 @@ fn fire_line(
     scratch: &mut [u8],
     buf: &mut [u8],
     q: Cursors,
-) -> FiredLine
+) -> RuleRun
     requires { ⌜ Within (now s) (now t) fence from line × (length (now places) ≡ 20) × SetSized h
-        × (length (left (now s) from) ≡ h .left + 1 + h .right) × ShortWords (left (now s) from)
+        × (length (left (now s) from) ≡ 1 + h .right) × ShortWords (left (now s) from)
         × (n ≡ length (fields (now layouts))) × (1 ≤ n) × (n < 100) × (k < 100) × Short (now model) (now layouts) (now variants)
         × (8192 ≤ length (now scratch)) × (length (now scratch) ≤ farthest) × (length (now buf) ≤ farthest) × Low (q .at)
         × Bounds (now layouts) (now variants) (now bounds) ⌝ }
-    ensures { λ r. ⌜ FiredLineOf (profileOf (textsOf (now (model .entry)) (now (layouts .entry)) (now (variants .entry)) [])) (headingBy h)
+    ensures { λ r. ⌜ FiredLine (profileOf (textsOf (now (model .entry)) (now (layouts .entry)) (now (variants .entry)) [])) (headingBy h .components)
         (now (s .entry)) from line (now (buf .entry)) (now (buf .exit)) q k r ⌝ }
 {
     let components = h.components;
@@ -69,7 +70,7 @@ fn fire_line(
     let cursors = fire_rule(
         w,
         places,
-        h.left + 1,
+        1,
         l.tally.count,
         components,
         model,
@@ -82,11 +83,101 @@ fn fire_line(
         buf,
         q,
     );
-    FiredLine {
+    RuleRun {
+        fired: true,
         at: from + l.next,
         line: line + l.line,
         cursors,
     }
+}
+
+// A line of a set from its first word on, at the layout k: it fires if its left words match. `layout` and `variant` are those of the layout k.
+fn run_line(
+    s: &[u8],
+    t: &[u8; 512],
+    fence: usize,
+    places: &mut [usize],
+    names: &[usize; 192],
+    rows: &[bool; 640],
+    groups: usize,
+    from: usize,
+    line: usize,
+    h: SetHeading,
+    model: &[u8],
+    layouts: &[u8],
+    variants: &[u8],
+    bounds: &[usize; 16],
+    layout: &[u8],
+    variant: &[u8],
+    options: &[u8],
+    table: &[usize; 192],
+    listed: usize,
+    n: usize,
+    k: usize,
+    scratch: &mut [u8],
+    buf: &mut [u8],
+    q: Cursors,
+) -> RuleRun
+    requires { ⌜ Within (now s) (now t) fence from line × (length (now places) ≡ 20) × Named (now s) (now names) groups
+        × Rowed (profileOf (textsOf (now model) (now layouts) (now variants) (now options))) (now s) (now names) (now rows) groups
+        × SetSized h × Listed (now options) (now table) listed × (length (optionsOf (now options)) ≤ mostOptions)
+        × (n ≡ length (fields (now layouts))) × (1 ≤ n) × (n < 100) × (k ≤ 4) × (anyOf perLayout (headingBy h .columns) ≡ true → 1 ≤ k)
+        × (now layout ≡ getD (fields (now layouts)) (k - 1) []) × (now variant ≡ getD (fields (now variants)) (k - 1) [])
+        × ((length (left (now s) from) ≡ 0 → ⊥) → length (left (now s) from) ≡ h .left + 1 + h .right) × ShortWords (left (now s) from)
+        × Short (now model) (now layouts) (now variants)
+        × (8192 ≤ length (now scratch)) × (length (now scratch) ≤ farthest) × (length (now buf) ≤ farthest) × Low (q .at)
+        × Bounds (now layouts) (now variants) (now bounds) ⌝ }
+    ensures { λ r. ⌜ RanLine (members (groupsAt (now (s .entry)) (now (names .entry)) groups))
+        (profileOf (textsOf (now (model .entry)) (now (layouts .entry)) (now (variants .entry)) (now (options .entry)))) (headingBy h)
+        (now (s .entry)) from line (now (buf .entry)) (now (buf .exit)) q k r ⌝ }
+{
+    let x = left_words(
+        s,
+        t,
+        fence,
+        from,
+        line,
+        h,
+        k,
+        layout,
+        variant,
+        names,
+        rows,
+        groups,
+        model,
+        layouts,
+        variants,
+        options,
+        table,
+        listed,
+    );
+    if !x.matched {
+        let e = pass_line(s, t, fence, x.at, x.line);
+        return RuleRun {
+            fired: false,
+            at: e.at,
+            line: e.line,
+            cursors: q,
+        };
+    }
+    fire_line(
+        s,
+        t,
+        fence,
+        places,
+        x.at,
+        x.line,
+        h,
+        model,
+        layouts,
+        variants,
+        bounds,
+        n,
+        k,
+        scratch,
+        buf,
+        q,
+    )
 }
 
 // The rules of a set from a line on, at the layout k: the first that matches fires, or every one where the set has an option column.
@@ -127,57 +218,24 @@ pub fn run_set(
     ensures { λ r. ⌜ FiredSet (profileOf (textsOf (now (model .entry)) (now (layouts .entry)) (now (variants .entry)) (now (options .entry))))
         (groupsAt (now (s .entry)) (now (names .entry)) groups) (headingBy h) every (now (buf .entry)) (now (buf .exit)) q r k (follow (now (s .entry)) start number) ⌝ }
 {
-    let columns = h.columns;
-    let left = h.left;
     let layout = field_at(layouts, bounds, LAYOUTS, place(k));
     let variant = field_at(variants, bounds, VARIANTS, place(k));
     let mut m = q;
     let mut at = start;
     let mut line = number;
-    'rules: while at < s.len() {
+    while at < s.len() {
         let o = open_line(s, t, at, line);
         if o.heading {
-            break 'rules;
+            return m;
         }
-        let mut i = o.at;
-        let mut l = o.line;
-        let mut c: usize = 0;
-        while c < left {
-            let x = left_word(
-                s,
-                t,
-                fence,
-                i,
-                l,
-                columns[c],
-                k,
-                layout,
-                variant,
-                names,
-                rows,
-                groups,
-                model,
-                layouts,
-                variants,
-                options,
-                table,
-                listed,
-            );
-            if !x.matched {
-                let e = pass_line(s, t, fence, x.at, x.line);
-                at = e.at;
-                line = e.line;
-                continue 'rules;
-            }
-            i = x.at;
-            l = x.line;
-            c += 1;
-        }
-        let f = fire_line(
+        let r = run_line(
             s,
             t,
             fence,
             places,
+            names,
+            rows,
+            groups,
             o.at,
             o.line,
             h,
@@ -185,17 +243,24 @@ pub fn run_set(
             layouts,
             variants,
             bounds,
+            layout,
+            variant,
+            options,
+            table,
+            listed,
             n,
             k,
             scratch,
             buf,
             m,
         );
-        m = f.cursors;
-        at = f.at;
-        line = f.line;
-        if !every {
-            break 'rules;
+        m = r.cursors;
+        at = r.at;
+        line = r.line;
+        if r.fired {
+            if !every {
+                return m;
+            }
         }
     }
     m
