@@ -3,7 +3,7 @@ use Prim.Native.Nat.{ℕ, zero, suc, _+_, _-_, _≤_, _<_}
 use native.Mathlib.Nat.{sub-zero}
 use native.Mathlib.Omega.{arith}
 use mathlib.Core.Path.{_≡_, refl, sym, ap, _∙_}
-use mathlib.Core.List.{[], _∷_, _++_}
+use mathlib.Core.List.{[], _∷_, _++_, append-nil}
 use mathlib.Core.Bool.{Bool, true, false, _||_}
 use lib.ListN.{length, take, drop, length-drop}
 use lib.Dec.{eqb}
@@ -16,9 +16,9 @@ use Rattle.output.proofs.Stores.{wrote-then}
 use Rattle.rules.specs.Headings.{decimal}
 use Rattle.rules.proofs.Pieces.{tail-whole}
 use Rattle.values.specs.Spread.{isSign, signed, cuts, endsAll, stem, copy, copies, spread}
-use Rattle.values.specs.Cutting.{CutEnd}
+use Rattle.values.specs.declared.Cut.{Cut}
+use Rattle.values.specs.Cutting.{NextCut}
 use Rattle.values.proofs.Writes.{Writing, writing-start, writing-more, writing-end}
-use Rattle.values.proofs.Cuts.{cut-at, cut-over}
 
 -- signs
 
@@ -122,17 +122,7 @@ module _ (t : Text) (n : ℕ) (d d′ : Text) (at k o : ℕ) (v : Copying t n d 
       let e : n + 1 - k ≡ 0 = omega arith in
       writing-end d d′ at (copies n 1 t) o (rw (e, copies-none) at (v .left))
 
--- one piece
-
-pub spread-all : (d d′ : Text) (n at : ℕ) (t : Text) (r : ℕ) (s : Bool) → s ≡ endsAll t → s ≡ true →
-    Wrote d d′ at (copies n 1 (take (length t - 4 - 0) t)) r → Wrote d d′ at (spread n t) r
-unfolding spread stem
-spread-all d d′ n at t r s e q w = rw (← e, q) (rw sub-zero at w)
-
-pub spread-plain : (d d′ : Text) (n at : ℕ) (t : Text) (r : ℕ) (s : Bool) → s ≡ endsAll t → s ≡ false → Wrote d d′ at t r → Wrote d d′ at (spread n t) r
-unfolding spread
-spread-plain d d′ n at t r s e q w = rw (← e, q) w
-
+-- nothing stays nothing
 pub spread-nil : (n : ℕ) → spread n [] ≡ []
 unfolding spread
 spread-nil n = rw ends-nil
@@ -146,14 +136,22 @@ pub record Spreading (t : Text) (n : ℕ) (d d′ : Text) (at i o : ℕ) : Type 
 pub spreading-start : (t : Text) (n : ℕ) (d : Text) (at : ℕ) → length d ≤ farthest → at ≤ farthest → Spreading t n d d at 0 at
 spreading-start t n d at l h = record { high = omega arith; left = writing-start d at (concatMap (spread n) (cuts t)) l h }
 
-module _ (t : Text) (n : ℕ) (d d′ : Text) (at i o : ℕ) (v : Spreading t n d d′ at i o) where
-  pub spreading-more : (d″ : Text) (e r : ℕ) → i < length t → CutEnd t (i + 1) e → Wrote d′ d″ o (spread n (part t i e)) r → Spreading t n d d″ at e r
-  spreading-more d″ e r h c w =
-      record {
-        high = c .high;
-        left = writing-more d d′ at (concatMap (spread n) (cuts t)) o (spread n (part t i e)) (concatMap (spread n) (cuts (drop e t))) d″ r
-            (rw (cut-at (spread n) t i e (spread-nil n) h c) at (v .left)) w;
-      }
+module _ (t : Text) (n : ℕ) (d d′ : Text) (at i o : ℕ) (v : Spreading t n d d′ at i o) (x : Cut) (c : NextCut t i x) (d₁ : Text) (o₁ : ℕ) (w : Wrote d′ d₁ o (part t i (x .start)) o₁) where
+  pub spreading-end : length t ≤ x .start → Wrote d d₁ at (concatMap (spread n) (cuts t)) o₁
+  spreading-end h =
+      let e : concatMap (spread n) (cuts (drop i t)) ≡ part t i (x .start) ++ [] = c .none h n ∙ sym (append-nil (part t i (x .start))) in
+      writing-end d d₁ at (concatMap (spread n) (cuts t)) o₁ (writing-more d d′ at (concatMap (spread n) (cuts t)) o (part t i (x .start)) [] d₁ o₁ (rw e at (v .left)) w)
 
-  pub spreading-end : length t ≤ i → Wrote d d′ at (concatMap (spread n) (cuts t)) o
-  spreading-end h = writing-end d d′ at (concatMap (spread n) (cuts t)) o (rw (cut-over (spread n) t i (spread-nil n) h) at (v .left))
+  -- what is left behind a piece that stays: its copies, and the pieces after it
+  pub spreading-copies : (h : x .start < length t) →
+      Writing d d₁ at (concatMap (spread n) (cuts t)) o₁ (copies n 1 (part t (x .start) (x .end - 4)) ++ concatMap (spread n) (cuts (drop (x .end) t)))
+  spreading-copies h =
+      writing-more d d′ at (concatMap (spread n) (cuts t)) o (part t i (x .start)) _ d₁ o₁ (rw (c .found h n) at (v .left)) w
+
+  pub spreading-more : (h : x .start < length t) (d₂ : Text) (o₂ : ℕ) → Wrote d₁ d₂ o₁ (copies n 1 (part t (x .start) (x .end - 4))) o₂ →
+      Spreading t n d d₂ at (x .end) o₂
+  spreading-more h d₂ o₂ u =
+      record {
+        high = c .inside h;
+        left = writing-more d d₁ at (concatMap (spread n) (cuts t)) o₁ (copies n 1 (part t (x .start) (x .end - 4))) _ d₂ o₂ (spreading-copies h) u;
+      }

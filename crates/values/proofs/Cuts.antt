@@ -13,11 +13,11 @@ use Rattle.values.specs.Spread.{isSign, cuts}
 use Rattle.values.specs.Cutting.{upto, beyond, InCut, CutEnd}
 
 -- the cuts behind the first
-later : Text → List Text
+unfoldable pub later : Text → List Text
 later [] = []
 later (b ∷ r) = let u = later r in cond (isSign b) (push b (cuts r)) u
 
-cuts-first : (r : Text) → cuts r ≡ upto r ∷ later r
+pub cuts-first : (r : Text) → cuts r ≡ upto r ∷ later r
 unfolding cuts upto later push
 cuts-first [] = refl
 cuts-first (b ∷ r) = go (isSign b) (cuts-first r)
@@ -44,7 +44,7 @@ unfolding concatMap
 empty-first f true l h = rw h
 empty-first f false l h = refl
 
-first-cut : (f : Text → Text) (b : ℕ) (r : Text) → concatMap f (push b (cuts r)) ≡ f (b ∷ upto r) ++ concatMap f (later r)
+pub first-cut : (f : Text → Text) (b : ℕ) (r : Text) → concatMap f (push b (cuts r)) ≡ f (b ∷ upto r) ++ concatMap f (later r)
 unfolding concatMap push
 first-cut f b r = rw cuts-first
 
@@ -58,11 +58,11 @@ unfolding concatMap cuts
 cuts-none f h = rw h
 
 -- the clauses at a sign and at any other byte
-upto-sign : (b : ℕ) (r : Text) → isSign b ≡ true → upto (b ∷ r) ≡ []
+pub upto-sign : (b : ℕ) (r : Text) → isSign b ≡ true → upto (b ∷ r) ≡ []
 unfolding upto
 upto-sign b r e = rw e
 
-upto-other : (b : ℕ) (r : Text) → isSign b ≡ false → upto (b ∷ r) ≡ b ∷ upto r
+pub upto-other : (b : ℕ) (r : Text) → isSign b ≡ false → upto (b ∷ r) ≡ b ∷ upto r
 unfolding upto
 upto-other b r e = rw e
 
@@ -70,11 +70,11 @@ beyond-sign : (b : ℕ) (r : Text) → isSign b ≡ true → beyond (b ∷ r) �
 unfolding beyond
 beyond-sign b r e = rw e
 
-beyond-other : (b : ℕ) (r : Text) → isSign b ≡ false → beyond (b ∷ r) ≡ beyond r
+pub beyond-other : (b : ℕ) (r : Text) → isSign b ≡ false → beyond (b ∷ r) ≡ beyond r
 unfolding beyond
 beyond-other b r e = rw e
 
-upto-nil : upto [] ≡ []
+pub upto-nil : upto [] ≡ []
 unfolding upto
 upto-nil = refl
 

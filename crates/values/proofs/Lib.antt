@@ -6,3 +6,4 @@ pub mod Choices
 pub mod Filling
 pub mod Begins
 pub mod Profiles
+pub mod Keeping

@@ -1,11 +1,12 @@
 -- A text cut before its signs, met piece by piece.
-use Prim.Native.Nat.{ℕ, _≤_}
+use Prim.Native.Nat.{ℕ, _+_, _-_, _≤_, _<_}
 use mathlib.Core.Path.{_≡_}
 use mathlib.Core.List.{[], _∷_, _++_}
-use mathlib.Core.Bool.{cond}
-use lib.ListN.{length, drop}
-use Rattle.text.specs.Bytes.{Text, part}
-use Rattle.values.specs.Spread.{isSign}
+use mathlib.Core.Bool.{Bool, true, false, cond}
+use lib.ListN.{length, take, drop, getD}
+use Rattle.text.specs.Bytes.{Text, bytes, same, part, concatMap}
+use Rattle.values.specs.declared.Cut.{Cut}
+use Rattle.values.specs.Spread.{isSign, cuts, copies, spread}
 
 -- what stands before the first sign, and the text from it on
 unfoldable pub upto : Text → Text
@@ -29,3 +30,30 @@ pub record CutEnd (t : Text) (from e : ℕ) : Type 0 where
   pub high : e ≤ length t
   pub piece : upto (drop from t) ≡ part t from e
   pub rest : beyond (drop from t) ≡ drop e t
+
+-- a text begins with `:all`
+unfoldable pub beginsAll : Text → Bool
+beginsAll t = same (take 4 t) (bytes ":all")
+
+-- from `from` up to i nowhere `:all` begins
+pub record FreeOfAll (t : Text) (from i : ℕ) : Type 0 where
+  pub low : from ≤ i
+  pub high : i ≤ length t
+  pub free : (k : ℕ) → from ≤ k → k < i → beginsAll (drop k t) ≡ false
+
+-- the piece that the place c stands in starts at p, not before `from`: there, or at a sign
+pub record PieceStart (t : Text) (from c p : ℕ) : Type 0 where
+  pub low : from ≤ p
+  pub high : p ≤ c
+  pub sign : from < p → isSign (getD t p 0) ≡ true
+  pub inside : InCut t (p + 1) (c + 1)
+
+-- The next piece that ends with `:all`, from the start of a piece on. What stands before it stays as it is.
+pub record NextCut (t : Text) (from : ℕ) (r : Cut) : Type 0 where
+  pub low : from ≤ r .start
+  pub high : r .start ≤ length t
+  pub none : length t ≤ r .start → (n : ℕ) → concatMap (spread n) (cuts (drop from t)) ≡ part t from (r .start)
+  pub long : r .start < length t → r .start + 4 ≤ r .end
+  pub inside : r .start < length t → r .end ≤ length t
+  pub found : r .start < length t → (n : ℕ) →
+      concatMap (spread n) (cuts (drop from t)) ≡ part t from (r .start) ++ (copies n 1 (part t (r .start) (r .end - 4)) ++ concatMap (spread n) (cuts (drop (r .end) t)))

@@ -3,13 +3,14 @@ ghost use mathlib.Core.Path.{_≡_};
 ghost use mathlib.Core.List.{_∷_};
 ghost use mathlib.Core.Bool.{_||_};
 ghost use Prim.Native.Nat.{_≤_, _<_};
-ghost use lib.ListN.{length};
+ghost use lib.ListN.{length, drop};
 ghost use lib.Dec.{eqb};
 ghost use Rattle.text.specs.Bytes.{concatMap};
 ghost use Rattle.output.specs.Store.{farthest, Wrote};
 ghost use Rattle.rules.specs.Headings.{decimal};
 ghost use Rattle.values.specs.Spread.{isSign, signed, cuts, endsAll, copy, copies, spread};
-ghost use Rattle.values.specs.Cutting.{InCut, CutEnd};
+ghost use Rattle.values.specs.Cutting.{InCut, CutEnd, beginsAll, FreeOfAll, PieceStart, NextCut};
+use super::Cut;
 use super::write;
 
 // Whether a byte is a sign.
@@ -84,18 +85,6 @@ pub fn put_copies(t: &[u8], n: usize, out: &mut [u8], at: u32) -> u32
     o
 }
 
-// Writes one piece, or its copies where it ends with `:all`.
-pub fn put_cut(t: &[u8], n: usize, out: &mut [u8], at: u32) -> u32
-    requires { ⌜ (n < 100) × (length (now out) ≤ farthest) × (at ≤ farthest) ⌝ }
-    ensures { λ r. ⌜ Wrote (now (out .entry)) (now (out .exit)) at (spread n (now (t .entry))) r ⌝ }
-{
-    if ends_all(t) {
-        let e = t.len() - 4;
-        return put_copies(&t[0..e], n, out, at);
-    }
-    write::put_text(t, out, at)
-}
-
 // A place up to which no sign stands: four bytes a turn.
 fn pass_plain(t: &[u8], from: usize) -> usize
     requires { ⌜ from ≤ length (now t) ⌝ }
@@ -135,6 +124,100 @@ pub fn cut_end(t: &[u8], from: usize) -> usize
     i
 }
 
+// Whether `:all` begins at i.
+fn begins_all(t: &[u8], i: usize) -> bool
+    requires { ⌜ i < length (now t) ⌝ }
+    ensures { λ r. ⌜ r ≡ beginsAll (drop i (now (t .entry))) ⌝ }
+{
+    if t[i] != b':' {
+        return false;
+    }
+    if t.len() - i < 4 {
+        return false;
+    }
+    if t[i + 1] != b'a' {
+        return false;
+    }
+    text::compare::same(&t[i..i + 4], b":all")
+}
+
+// A place up to which no colon stands: four bytes a turn.
+fn pass_colonless(t: &[u8], from: usize) -> usize
+    requires { ⌜ from ≤ length (now t) ⌝ }
+    ensures { λ r. ⌜ FreeOfAll (now (t .entry)) from r ⌝ }
+{
+    let mut i: usize = from;
+    while i + 3 < t.len() {
+        if t[i] == b':' {
+            return i;
+        }
+        if t[i + 1] == b':' {
+            return i;
+        }
+        if t[i + 2] == b':' {
+            return i;
+        }
+        if t[i + 3] == b':' {
+            return i;
+        }
+        i += 4;
+    }
+    i
+}
+
+// The first place from `from` on where `:all` begins, or the text's end.
+fn find_all(t: &[u8], from: usize) -> usize
+    requires { ⌜ from ≤ length (now t) ⌝ }
+    ensures { λ r. ⌜ FreeOfAll (now (t .entry)) from r ⌝ }
+{
+    let mut i: usize = pass_colonless(t, from);
+    while i < t.len() {
+        if begins_all(t, i) {
+            return i;
+        }
+        i += 1;
+    }
+    i
+}
+
+// Where the piece starts that the place c stands in: at a sign, or at `from`.
+fn piece_start(t: &[u8], from: usize, c: usize) -> usize
+    requires { ⌜ (from ≤ c) × (c < length (now t)) ⌝ }
+    ensures { λ r. ⌜ PieceStart (now (t .entry)) from c r ⌝ }
+{
+    let mut p = c;
+    while from < p {
+        if is_sign(t[p]) {
+            return p;
+        }
+        p -= 1;
+    }
+    p
+}
+
+// The next piece that ends with `:all`, from the start of a piece on, or the text's end.
+fn next_cut(t: &[u8], from: usize) -> Cut
+    requires { ⌜ from ≤ length (now t) ⌝ }
+    ensures { λ r. ⌜ NextCut (now (t .entry)) from r ⌝ }
+{
+    let mut i = from;
+    loop {
+        let c = find_all(t, i);
+        if t.len() <= c {
+            return Cut {
+                start: t.len(),
+                end: t.len(),
+            };
+        }
+        let start = piece_start(t, i, c);
+        let end = cut_end(t, c + 1);
+        if ends_all(&t[start..end]) {
+            return Cut { start, end };
+        }
+        i = end;
+    }
+}
+
 // Writes a filled value with its `:all` spread over n layouts. At the farthest position nothing is written any more, and none is gone on to.
 pub fn put_spread(t: &[u8], n: usize, out: &mut [u8], at: u32) -> u32
     requires { ⌜ (n < 100) × (length (now out) ≤ farthest) × (at ≤ farthest) ⌝ }
@@ -145,10 +228,15 @@ pub fn put_spread(t: &[u8], n: usize, out: &mut [u8], at: u32) -> u32
     }
     let mut i: usize = 0;
     let mut o: u32 = at;
-    while i < t.len() {
-        let e = cut_end(t, i + 1);
-        o = put_cut(&t[i..e], n, out, o);
-        i = e;
+    loop {
+        let x = next_cut(t, i);
+        let start = x.start;
+        o = write::put_text(&t[i..start], out, o);
+        if t.len() <= start {
+            return o;
+        }
+        let end = x.end;
+        o = put_copies(&t[start..end - 4], n, out, o);
+        i = end;
     }
-    o
 }

@@ -1,12 +1,16 @@
 use borrow.Author.Needs.{needs}
-use Rattle.values.proofs.spread.put_spread.Statement.{statement}
-use Rattle.values.proofs.spread.put_spread.Tie as tie
 use Prim.Native.Nat.{_-_}
 use native.Mathlib.Omega.{arith}
+use mathlib.Core.Path.{sym, _∙_}
 use lib.ListN.{length}
 use Rattle.text.specs.Bytes.{part}
 use Rattle.values.proofs.Writes.{wrote-farthest}
-use Rattle.values.proofs.Copying.{Spreading, spreading-start, spreading-more, spreading-end}
+use Rattle.values.proofs.Copying.{Spreading, spreading-start, spreading-end, spreading-copies, spreading-more}
+use Rattle.values.proofs.spread.put_spread.Statement.{statement}
+use Rattle.values.proofs.spread.put_spread.Tie as tie
+use Rattle.values.proofs.spread.next_cut.Reads as next-cut-reads
+use Rattle.values.proofs.spread.put_copies.Reads as put-copies-reads
+use Rattle.values.proofs.write.put_text.Reads as put-text-reads
 
 abbrev Inv-loop : tie.InvT-loop
 Inv-loop t n out₀ at i₀ o₀ out i o = Spreading t n out₀ out at i o
@@ -20,36 +24,50 @@ returns c = wrote-farthest _ _ _ (c .before .before .before .pre .1) (c .before 
 loop-holds : tie.Need-loop-holds Inv-loop μ-loop
 loop-holds c = spreading-start _ _ _ _ (c .before .before .before .pre .1) (c .before .before .before .pre .2)
 
-add-cut-end : tie.Need-add-cut-end Inv-loop μ-loop
-add-cut-end c = search needs
+next-cut-requires : tie.Need-next-cut-requires Inv-loop μ-loop
+next-cut-requires c κs = search needs
 
-cut-end-requires : tie.Need-cut-end-requires Inv-loop μ-loop
-cut-end-requires c κs = search needs
+sub-put-text : tie.Need-sub-put-text Inv-loop μ-loop
+sub-put-text c = c .next-cut .ensures .low
 
-sub-put-cut : tie.Need-sub-put-cut Inv-loop μ-loop
-sub-put-cut c = search needs
+part-put-text-start : tie.Need-part-put-text-start Inv-loop μ-loop
+part-put-text-start c = c .next-cut .ensures .low
 
-part-put-cut-start : tie.Need-part-put-cut-start Inv-loop μ-loop
-part-put-cut-start c = search needs
+part-put-text-end : tie.Need-part-put-text-end Inv-loop μ-loop
+part-put-text-end c = c .next-cut .ensures .high
 
-part-put-cut-end : tie.Need-part-put-cut-end Inv-loop μ-loop
-part-put-cut-end c = search needs
+put-text-requires : tie.Need-put-text-requires Inv-loop μ-loop
+put-text-requires c κs = search needs
 
-put-cut-requires : tie.Need-put-cut-requires Inv-loop μ-loop
-put-cut-requires c κs = (c .before .before .before .before .before .before .before .before .pre .0, omega (arith, c .before .before .before .before .loop .inv .left .long, c .before .before .before .before .before .before .before .before .pre .1), c .before .before .before .before .loop .inv .left .low)
+same-length : tie.Need-same-length Inv-loop μ-loop
+same-length c = c .before .before .before .put-text .kept .1 .0 ∙ c .before .before .before .before .before .before .before .loop .inv .left .long
+
+returns-2 : tie.Need-returns-2 Inv-loop μ-loop
+unfolding part
+returns-2 c = spreading-end _ _ _ _ _ _ _ (c .before .before .before .before .before .before .before .loop .inv) _ (c .before .before .before .before .before .before .next-cut .ensures) _ _ (c .before .before .before .put-text .ensures) (c .if2 .taken)
+
+sub-put-copies : tie.Need-sub-put-copies Inv-loop μ-loop
+sub-put-copies c = omega (arith, c .before .before .before .before .before .before .next-cut .ensures .long (c .if2 .left))
+
+sub-put-copies-2 : tie.Need-sub-put-copies-2 Inv-loop μ-loop
+sub-put-copies-2 c = omega (arith, c .before .before .before .before .before .before .next-cut .ensures .long (c .if2 .left))
+
+part-put-copies-start : tie.Need-part-put-copies-start Inv-loop μ-loop
+part-put-copies-start c = omega (arith, c .before .before .before .before .before .before .next-cut .ensures .long (c .if2 .left))
+
+part-put-copies-end : tie.Need-part-put-copies-end Inv-loop μ-loop
+part-put-copies-end c = omega (arith, c .before .before .before .before .before .before .next-cut .ensures .inside (c .if2 .left))
+
+put-copies-requires : tie.Need-put-copies-requires Inv-loop μ-loop
+unfolding part
+put-copies-requires c κs = let w = spreading-copies _ _ _ _ _ _ _ (c .before .before .before .before .before .before .before .before .before .loop .inv) _ (c .before .before .before .before .before .before .before .before .next-cut .ensures) _ _ (c .before .before .before .before .before .put-text .ensures) (c .before .before .if2 .left) in (c .before .before .before .before .before .before .before .before .before .before .before .before .before .pre .0, omega (arith, w .long, c .before .before .before .before .before .before .before .before .before .before .before .before .before .pre .1), w .low)
 
 loop-less : tie.Need-loop-less Inv-loop μ-loop
-loop-less c = search needs
+loop-less c = omega (arith, c .before .before .before .before .before .before .before .before .before .before .before .next-cut .ensures .low, c .before .before .before .before .before .before .before .before .before .before .before .next-cut .ensures .long (c .before .before .before .before .before .if2 .left), c .before .before .before .before .before .if2 .left)
 
 loop-again : tie.Need-loop-again Inv-loop μ-loop
 unfolding part
-loop-again c = spreading-more _ _ _ _ _ _ _ (c .before .before .before .before .before .before .before .loop .inv) _ _ _ (c .before .before .before .before .before .before .loop-test .taken) (c .before .before .before .before .before .cut-end .ensures) (c .before .before .put-cut .ensures)
-
-same-length : tie.Need-same-length Inv-loop μ-loop
-same-length c = c .before .loop .inv .left .long
-
-returns-2 : tie.Need-returns-2 Inv-loop μ-loop
-returns-2 c = spreading-end _ _ _ _ _ _ _ (c .before .loop .inv) (c .loop-test .left)
+loop-again c = spreading-more _ _ _ _ _ _ _ (c .before .before .before .before .before .before .before .before .before .before .before .before .loop .inv) _ (c .before .before .before .before .before .before .before .before .before .before .before .next-cut .ensures) _ _ (c .before .before .before .before .before .before .before .before .put-text .ensures) (c .before .before .before .before .before .if2 .left) _ _ (c .before .before .put-copies .ensures)
 
 pub put-spread-spec : {M : Type 1} → statement M
 put-spread-spec =
@@ -59,13 +77,17 @@ put-spread-spec =
     μ-loop
     returns
     loop-holds
-    add-cut-end
-    cut-end-requires
-    sub-put-cut
-    part-put-cut-start
-    part-put-cut-end
-    put-cut-requires
-    loop-less
-    loop-again
+    next-cut-requires
+    sub-put-text
+    part-put-text-start
+    part-put-text-end
+    put-text-requires
     same-length
-    returns-2)
+    returns-2
+    sub-put-copies
+    sub-put-copies-2
+    part-put-copies-start
+    part-put-copies-end
+    put-copies-requires
+    loop-less
+    loop-again)

@@ -1,0 +1,55 @@
+use borrow.Author.Needs.{needs}
+use Prim.Native.Nat.{_-_}
+use lib.ListN.{length}
+use mathlib.Core.Path.{sym, _∙_}
+use Rattle.values.specs.Cutting.{FreeOfAll}
+use Rattle.values.proofs.Keeping.{free-more}
+use Rattle.values.proofs.spread.find_all.Statement.{statement}
+use Rattle.values.proofs.spread.find_all.Tie as tie
+use Rattle.values.proofs.spread.begins_all.Reads as begins-all-reads
+use Rattle.values.proofs.spread.pass_colonless.Reads as pass-colonless-reads
+
+abbrev Inv-loop : tie.InvT-loop
+Inv-loop t from i₀ i = FreeOfAll t from i
+
+abbrev μ-loop : tie.MeasureT-loop
+μ-loop t from i₀ i = length t - i
+
+pass-colonless-requires : tie.Need-pass-colonless-requires Inv-loop μ-loop
+pass-colonless-requires c κs = search needs
+
+loop-holds : tie.Need-loop-holds Inv-loop μ-loop
+loop-holds c = c .pass-colonless .ensures
+
+begins-all-requires : tie.Need-begins-all-requires Inv-loop μ-loop
+begins-all-requires c κs = search needs
+
+returns : tie.Need-returns Inv-loop μ-loop
+returns c = c .before .before .before .loop .inv
+
+add-i : tie.Need-add-i Inv-loop μ-loop
+add-i c = search needs
+
+loop-less : tie.Need-loop-less Inv-loop μ-loop
+loop-less c = search needs
+
+loop-again : tie.Need-loop-again Inv-loop μ-loop
+loop-again c = free-more _ _ _ (c .before .before .before .loop .inv) (c .before .before .loop-test .taken) (sym (c .before .begins-all .ensures) ∙ c .if1 .left)
+
+returns-2 : tie.Need-returns-2 Inv-loop μ-loop
+returns-2 c = c .before .loop .inv
+
+pub find-all-spec : {M : Type 1} → statement M
+find-all-spec =
+    tie.close
+    (tie.spec
+    Inv-loop
+    μ-loop
+    pass-colonless-requires
+    loop-holds
+    begins-all-requires
+    returns
+    add-i
+    loop-less
+    loop-again
+    returns-2)
