@@ -4,15 +4,15 @@ use native.Mathlib.Nat.{sub-zero}
 use native.Mathlib.Omega.{arith}
 use mathlib.Core.Path.{_≡_, refl, sym, ap, _∙_}
 use mathlib.Core.List.{[], _∷_, _++_, append-nil}
-use mathlib.Core.Bool.{Bool, true, false, _||_}
-use lib.ListN.{length, take, drop, length-drop}
+use mathlib.Core.Bool.{Bool, true, false, _||_, cond}
+use lib.ListN.{length, take, drop, length-append, length-drop}
 use lib.Dec.{eqb}
-use borrow.Author.Tests.{eq-eqb, ne-eqb}
+use borrow.Author.Tests.{eq-eqb, ne-eqb, lt-ltb, le-ltb}
 use Rattle.text.specs.Bytes.{Text, bytes, same, first, part, concatMap}
 use Rattle.text.proofs.Comparing.{same-length}
 use Rattle.text.proofs.Lists.{no, or-right}
-use Rattle.output.specs.Store.{farthest, Wrote}
-use Rattle.output.proofs.Stores.{wrote-then}
+use Rattle.output.specs.Store.{farthest, past, Wrote}
+use Rattle.output.proofs.Stores.{stored-behind, wrote-none, wrote-then}
 use Rattle.rules.specs.Headings.{decimal}
 use Rattle.rules.proofs.Pieces.{tail-whole}
 use Rattle.values.specs.Spread.{isSign, signed, cuts, endsAll, stem, copy, copies, spread}
@@ -84,6 +84,29 @@ module _ (d d₁ d₂ : Text) (t : Text) (k at a r : ℕ) (l : length d ≤ fart
   copy-plus d₀ z s e q p u v =
       rw (← e, q) (wrote-then d d₁ d₂ at (43 ∷ t) (58 ∷ decimal k) a r l (wrote-then d d₀ d₁ at (43 ∷ []) t z a l p u) v)
 
+-- a copy behind the buffer's end
+copy-size : (k : ℕ) (t : Text) → length (copy k t) ≡ length (cond (signed t || eqb k 1) t (43 ∷ t)) + suc (length (decimal k))
+unfolding copy
+copy-size k t = length-append (cond (signed t || eqb k 1) t (43 ∷ t)) (58 ∷ decimal k)
+
+pub digits-one : (k : ℕ) → k < 10 → length (decimal k) ≡ 1
+unfolding decimal
+digits-one k h = rw (lt-ltb k 10 h)
+
+pub digits-two : (k : ℕ) → 10 ≤ k → length (decimal k) ≡ 2
+unfolding decimal
+digits-two k h = rw (le-ltb k 10 h)
+
+module _ (t : Text) (k n : ℕ) (s : Bool) (e : s ≡ signed t || eqb k 1) (d : n ≡ length (decimal k)) where
+  pub length-keeps : s ≡ true → length t + 1 + n ≡ length (copy k t)
+  length-keeps q = let z = copy-size k t in sym (z ∙ rw (← e, q) (omega arith))
+
+  pub length-plus : s ≡ false → length t + 2 + n ≡ length (copy k t)
+  length-plus q = let z = copy-size k t in sym (z ∙ rw (← e, q) (omega arith))
+
+pub copy-behind : (d : Text) (t : Text) (k at i n r : ℕ) → i ≡ at → length d ≤ i → n ≡ length (copy k t) → r ≡ past at n → Wrote d d at (copy k t) r
+copy-behind d t k at i n r e h m q = record { text = sym (stored-behind d at (copy k t) (omega arith)); next = q ∙ ap (past at) m }
+
 pub end-written : (d d′ d″ : Text) (k at a r : ℕ) → length d ≤ farthest → Wrote d d′ at (58 ∷ []) a → Wrote d′ d″ a (decimal k) r → Wrote d d″ at (58 ∷ decimal k) r
 end-written d d′ d″ k at a r l u v = wrote-then d d′ d″ at (58 ∷ []) (decimal k) a r l u v
 
@@ -121,6 +144,11 @@ module _ (t : Text) (n : ℕ) (d d′ : Text) (at k o : ℕ) (v : Copying t n d 
   copying-end h =
       let e : n + 1 - k ≡ 0 = omega arith in
       writing-end d d′ at (copies n 1 t) o (rw (e, copies-none) at (v .left))
+
+-- nothing is written where nothing stays
+pub kept-none : (d : Text) (at : ℕ) (t : Text) → at ≤ farthest → length t ≡ 0 → Wrote d d at t at
+kept-none d at [] h e = wrote-none d at h
+kept-none d at (b ∷ t) h e = absurd (omega arith)
 
 -- nothing stays nothing
 pub spread-nil : (n : ℕ) → spread n [] ≡ []

@@ -15,8 +15,8 @@ use Rattle.text.proofs.Positions.{part-empty, part-cons}
 use Rattle.profile.specs.Profile.{push}
 use Rattle.values.specs.declared.Cut.{Cut}
 use Rattle.values.specs.Spread.{isSign, cuts, endsAll, stem, copies, spread}
-use Rattle.values.specs.Cutting.{upto, beyond, InCut, CutEnd, beginsAll, FreeOfAll, PieceStart, NextCut}
-use Rattle.values.proofs.Cuts.{later, cuts-first, first-cut, upto-sign, upto-other, upto-nil, beyond-other, in-cut-start, cut-at, cut-over}
+use Rattle.values.specs.Cutting.{upto, beyond, InCut, CutEnd, beginsAll, FreeOfAll, FirstAll, PieceStart, NextCut}
+use Rattle.values.proofs.Cuts.{later, cuts-first, first-cut, upto-sign, upto-other, upto-nil, beyond-other, in-cut-start, in-cut-more, cut-at, cut-over}
 use Rattle.values.proofs.Copying.{ends-long, spread-nil}
 
 -- `:all` at the end of a piece stands in every text that the piece begins
@@ -144,6 +144,27 @@ pub begins-colon : (t : Text) (i : ℕ) → i < length t → (getD t i 0 ≡ 58 
 unfolding beginsAll bytes
 begins-colon t i l h = same-differ (take 4 (drop i t)) (bytes ":all") 0 (λ e. h (sym (getD-take 4 (drop i t) 0 0 (omega arith) ∙ (getD-drop i t 0 0 ∙ ap (λ (k : ℕ). getD t k 0) (omega arith))) ∙ e))
 
+-- what stands where `:all` begins
+begins-is : (t : Text) (c : ℕ) → c < length t → beginsAll (drop c t) ≡ true → take 4 (drop c t) ≡ bytes ":all"
+unfolding beginsAll
+begins-is t c l h = same-eq (take 4 (drop c t)) (bytes ":all") h
+
+pub begins-long : (t : Text) (c : ℕ) → c < length t → beginsAll (drop c t) ≡ true → c + 4 ≤ length t
+unfolding bytes
+begins-long t c l h = omega (arith, ap length (begins-is t c l h), length-take 4 (drop c t), length-drop c t)
+
+signless : (k : ℕ) → k < 4 → isSign (getD (bytes ":all") k 0) ≡ false
+unfolding isSign bytes
+signless zero l = refl
+signless (suc zero) l = refl
+signless (suc (suc zero)) l = refl
+signless (suc (suc (suc zero))) l = refl
+signless (suc (suc (suc (suc k)))) l = absurd (omega arith)
+
+all-signless : (t : Text) (c : ℕ) → c < length t → beginsAll (drop c t) ≡ true → (k : ℕ) → k < 4 → isSign (getD t (c + k) 0) ≡ false
+all-signless t c l h k m =
+    ap isSign (sym (getD-take 4 (drop c t) k 0 m ∙ getD-drop c t k 0) ∙ ap (λ (x : Text). getD x k 0) (begins-is t c l h)) ∙ signless k m
+
 -- the loops of `pass_colonless` and `find_all`
 pub free-start : (t : Text) (from : ℕ) → from ≤ length t → FreeOfAll t from from
 free-start t from h = record { low = omega arith; high = h; free = λ k a b. absurd (omega arith) }
@@ -166,17 +187,27 @@ module _ (t : Text) (from i : ℕ) (v : FreeOfAll t from i) (h : i < length t) w
   pub free-plain : (getD t i 0 ≡ 58 → ⊥) → FreeOfAll t from (i + 1)
   free-plain n = free-more (begins-colon t i h n)
 
-pub free-four : (t : Text) (from i : ℕ) → FreeOfAll t from i → i + 3 < length t → (getD t i 0 ≡ 58 → ⊥) → (getD t (i + 1) 0 ≡ 58 → ⊥) →
-    (getD t (i + 2) 0 ≡ 58 → ⊥) → (getD t (i + 3) 0 ≡ 58 → ⊥) → FreeOfAll t from (i + 4)
-free-four t from i v h e₀ e₁ e₂ e₃ =
-    let v₁ = free-plain t from i v (omega arith) e₀ in
-    let v₂ = free-plain t from (i + 1) v₁ (omega arith) e₁ in
-    let q₂ : i + 1 + 1 ≡ i + 2 = omega arith in
-    let v₃ = free-plain t from (i + 2) (rw q₂ at v₂) (omega arith) e₂ in
-    let q₃ : i + 2 + 1 ≡ i + 3 = omega arith in
-    let v₄ = free-plain t from (i + 3) (rw q₃ at v₃) (omega arith) e₃ in
-    let q₄ : i + 3 + 1 ≡ i + 4 = omega arith in
-    rw q₄ at v₄
+free-next : (t : Text) (from i j : ℕ) → i + 1 ≡ j → FreeOfAll t from i → i < length t → (getD t i 0 ≡ 58 → ⊥) → FreeOfAll t from j
+free-next t from i j e v h n = rw e at (free-plain t from i v h n)
+
+module _ (t : Text) (from i : ℕ) (v : FreeOfAll t from i) (h : i + 3 < length t) where
+  pub free-one : (getD t i 0 ≡ 58 → ⊥) → FreeOfAll t from (i + 1)
+  free-one a = free-next t from i (i + 1) refl v (omega arith) a
+
+  pub free-two : (getD t i 0 ≡ 58 → ⊥) → (getD t (i + 1) 0 ≡ 58 → ⊥) → FreeOfAll t from (i + 2)
+  free-two a b = free-next t from (i + 1) (i + 2) (omega arith) (free-one a) (omega arith) b
+
+  pub free-three : (getD t i 0 ≡ 58 → ⊥) → (getD t (i + 1) 0 ≡ 58 → ⊥) → (getD t (i + 2) 0 ≡ 58 → ⊥) → FreeOfAll t from (i + 3)
+  free-three a b c = free-next t from (i + 2) (i + 3) (omega arith) (free-two a b) (omega arith) c
+
+  pub free-four : (getD t i 0 ≡ 58 → ⊥) → (getD t (i + 1) 0 ≡ 58 → ⊥) → (getD t (i + 2) 0 ≡ 58 → ⊥) → (getD t (i + 3) 0 ≡ 58 → ⊥) → FreeOfAll t from (i + 4)
+  free-four a b c d = free-next t from (i + 3) (i + 4) (omega arith) (free-three a b c) (omega arith) d
+
+pub first-here : (t : Text) (from i : ℕ) → FreeOfAll t from i → beginsAll (drop i t) ≡ true → FirstAll t from i
+first-here t from i v e = record { free = v; here = λ h. e }
+
+pub first-none : (t : Text) (from i : ℕ) → FreeOfAll t from i → length t ≤ i → FirstAll t from i
+first-none t from i v h = record { free = v; here = λ l. absurd (omega arith) }
 
 -- the loop of `piece_start`: behind p no sign stands up to c
 pub record Backing (t : Text) (from c p : ℕ) : Type 0 where
@@ -222,14 +253,14 @@ pub record Seeking (t : Text) (from i : ℕ) : Type 0 where
 pub seeking-start : (t : Text) (from : ℕ) → from ≤ length t → Seeking t from from
 seeking-start t from h = record { low = omega arith; high = h; kept = λ n. rw (part-empty t from) }
 
-module _ (t : Text) (from i : ℕ) (v : Seeking t from i) (c : ℕ) (f : FreeOfAll t i c) where
+module _ (t : Text) (from i : ℕ) (v : Seeking t from i) (c : ℕ) (f : FirstAll t i c) where
   pub seeking-none : length t ≤ c → NextCut t from (record { start = length t; end = length t })
   seeking-none h =
       record {
         low = omega (arith, v .low, v .high);
         high = omega arith;
         none = λ l n.
-            let e = run-kept n t i (length t) (v .high) (omega arith) (ap upto (drop-length t) ∙ upto-nil) (λ k a b. f .free k a (omega arith)) in
+            let e = run-kept n t i (length t) (v .high) (omega arith) (ap upto (drop-length t) ∙ upto-nil) (λ k a b. f .free .free k a (omega arith)) in
             v .kept n ∙ (ap (λ (x : Text). part t from i ++ x) (e ∙ (ap (λ (x : Text). part t i (length t) ++ x) (cut-over (spread n) t (length t) (spread-nil n) (omega arith)) ∙ append-nil (part t i (length t))))
             ∙ part-join t from i (length t) (v .low) (v .high));
         long = λ l. absurd (omega arith);
@@ -237,14 +268,26 @@ module _ (t : Text) (from i : ℕ) (v : Seeking t from i) (c : ℕ) (f : FreeOfA
         found = λ l. absurd (omega arith);
       }
 
-  module _ (m : c < length t) (p : ℕ) (b : PieceStart t i c p) (e : ℕ) (d : CutEnd t (c + 1) e) where
+  module _ (m : c < length t) (p : ℕ) (b : PieceStart t i c p) (e : ℕ) (d : CutEnd t (c + 4) e) where
+    -- no sign stands in `:all`
+    inside : InCut t (p + 1) (c + 4)
+    inside =
+        let a = f .here m in
+        let l = begins-long t c m a in
+        let q₂ : c + 1 + 1 ≡ c + 2 = omega arith in
+        let v₂ : InCut t (p + 1) (c + 2) = rw q₂ at (in-cut-more t (p + 1) (c + 1) (b .inside) (omega arith) (all-signless t c m a 1 (omega arith))) in
+        let q₃ : c + 2 + 1 ≡ c + 3 = omega arith in
+        let v₃ : InCut t (p + 1) (c + 3) = rw q₃ at (in-cut-more t (p + 1) (c + 2) v₂ (omega arith) (all-signless t c m a 2 (omega arith))) in
+        let q₄ : c + 3 + 1 ≡ c + 4 = omega arith in
+        rw q₄ at (in-cut-more t (p + 1) (c + 3) v₃ (omega arith) (all-signless t c m a 3 (omega arith)))
+
     whole-piece : CutEnd t (p + 1) e
     whole-piece =
         record {
           low = omega (arith, b .high, d .low);
           high = d .high;
-          piece = b .inside .piece ∙ (ap (λ (x : Text). part t (p + 1) (c + 1) ++ x) (d .piece) ∙ part-join t (p + 1) (c + 1) e (omega (arith, b .high)) (d .low));
-          rest = b .inside .rest ∙ d .rest;
+          piece = inside .piece ∙ (ap (λ (x : Text). part t (p + 1) (c + 4) ++ x) (d .piece) ∙ part-join t (p + 1) (c + 4) e (omega (arith, b .high)) (d .low));
+          rest = inside .rest ∙ d .rest;
         }
 
     to-piece : (n : ℕ) → concatMap (spread n) (cuts (drop i t)) ≡ part t i p ++ concatMap (spread n) (cuts (drop p t))
@@ -255,7 +298,7 @@ module _ (t : Text) (from i : ℕ) (v : Seeking t from i) (c : ℕ) (f : FreeOfA
             let s = b .sign (ltb-true i p q) in
             run-kept n t i p (b .low) (omega (arith, b .high))
             (ap upto (drop-at t p (omega (arith, b .high))) ∙ upto-sign (getD t p 0) (drop (p + 1) t) s)
-            (λ k x y. f .free k x (omega (arith, b .high)))
+            (λ k x y. f .free .free k x (omega (arith, b .high)))
         go false q = let z : p ≡ i = omega (arith, ltb-false i p q, b .low) in rw (z, part-empty t i)
 
     -- the piece, and what is left behind it

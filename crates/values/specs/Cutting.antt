@@ -41,6 +41,11 @@ pub record FreeOfAll (t : Text) (from i : ℕ) : Type 0 where
   pub high : i ≤ length t
   pub free : (k : ℕ) → from ≤ k → k < i → beginsAll (drop k t) ≡ false
 
+-- the first place from `from` on where `:all` begins, or the text's end
+pub record FirstAll (t : Text) (from i : ℕ) : Type 0 where
+  pub free : FreeOfAll t from i
+  pub here : i < length t → beginsAll (drop i t) ≡ true
+
 -- the piece that the place c stands in starts at p, not before `from`: there, or at a sign
 pub record PieceStart (t : Text) (from c p : ℕ) : Type 0 where
   pub low : from ≤ p

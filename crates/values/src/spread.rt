@@ -9,7 +9,7 @@ ghost use Rattle.text.specs.Bytes.{concatMap};
 ghost use Rattle.output.specs.Store.{farthest, Wrote};
 ghost use Rattle.rules.specs.Headings.{decimal};
 ghost use Rattle.values.specs.Spread.{isSign, signed, cuts, endsAll, copy, copies, spread};
-ghost use Rattle.values.specs.Cutting.{InCut, CutEnd, beginsAll, FreeOfAll, PieceStart, NextCut};
+ghost use Rattle.values.specs.Cutting.{InCut, CutEnd, beginsAll, FreeOfAll, FirstAll, PieceStart, NextCut};
 use super::Cut;
 use super::write;
 
@@ -57,11 +57,35 @@ pub fn put_end(k: usize, out: &mut [u8], at: u32) -> u32
     write::put_number(k, out, next)
 }
 
-// Writes the k-th copy of a piece, `t` being what stands before its `:all`.
+// How many digits a copy's number has.
+fn digits(k: usize) -> usize
+    ensures { λ r. ⌜ (r ≡ length (decimal k)) × (r ≤ 2) ⌝ }
+{
+    if k < 10 {
+        return 1;
+    }
+    2
+}
+
+// How long the k-th copy of a piece is, `t` being what stands before its `:all`.
+fn copy_length(t: &[u8], k: usize) -> usize
+    ensures { λ r. ⌜ r ≡ length (copy k (now (t .entry))) ⌝ }
+{
+    let n = digits(k);
+    if keeps(t, k) {
+        return t.len() + 1 + n;
+    }
+    t.len() + 2 + n
+}
+
+// Writes the k-th copy of a piece. Behind the buffer's end it is counted alone.
 pub fn put_copy(t: &[u8], k: usize, out: &mut [u8], at: u32) -> u32
     requires { ⌜ (k < 100) × (length (now out) ≤ farthest) ⌝ }
     ensures { λ r. ⌜ Wrote (now (out .entry)) (now (out .exit)) at (copy k (now (t .entry))) r ⌝ }
 {
+    if out.len() <= output::wide(at) {
+        return output::past(at, copy_length(t, k));
+    }
     if keeps(t, k) {
         let a = write::put_text(t, out, at);
         return put_end(k, out, a);
@@ -152,13 +176,13 @@ fn pass_colonless(t: &[u8], from: usize) -> usize
             return i;
         }
         if t[i + 1] == b':' {
-            return i;
+            return i + 1;
         }
         if t[i + 2] == b':' {
-            return i;
+            return i + 2;
         }
         if t[i + 3] == b':' {
-            return i;
+            return i + 3;
         }
         i += 4;
     }
@@ -168,7 +192,7 @@ fn pass_colonless(t: &[u8], from: usize) -> usize
 // The first place from `from` on where `:all` begins, or the text's end.
 fn find_all(t: &[u8], from: usize) -> usize
     requires { ⌜ from ≤ length (now t) ⌝ }
-    ensures { λ r. ⌜ FreeOfAll (now (t .entry)) from r ⌝ }
+    ensures { λ r. ⌜ FirstAll (now (t .entry)) from r ⌝ }
 {
     let mut i: usize = pass_colonless(t, from);
     while i < t.len() {
@@ -210,12 +234,23 @@ fn next_cut(t: &[u8], from: usize) -> Cut
             };
         }
         let start = piece_start(t, i, c);
-        let end = cut_end(t, c + 1);
+        let end = cut_end(t, c + 4);
         if ends_all(&t[start..end]) {
             return Cut { start, end };
         }
         i = end;
     }
+}
+
+// Writes what stays as it is, which is often nothing.
+fn put_kept(t: &[u8], out: &mut [u8], at: u32) -> u32
+    requires { ⌜ at ≤ farthest ⌝ }
+    ensures { λ r. ⌜ Wrote (now (out .entry)) (now (out .exit)) at (now (t .entry)) r ⌝ }
+{
+    if t.len() == 0 {
+        return at;
+    }
+    write::put_text(t, out, at)
 }
 
 // Writes a filled value with its `:all` spread over n layouts. At the farthest position nothing is written any more, and none is gone on to.
@@ -231,7 +266,7 @@ pub fn put_spread(t: &[u8], n: usize, out: &mut [u8], at: u32) -> u32
     loop {
         let x = next_cut(t, i);
         let start = x.start;
-        o = write::put_text(&t[i..start], out, o);
+        o = put_kept(&t[i..start], out, o);
         if t.len() <= start {
             return o;
         }

@@ -3,7 +3,7 @@ use Prim.Native.Nat.{_-_}
 use lib.ListN.{length}
 use mathlib.Core.Path.{sym, _∙_}
 use Rattle.values.specs.Cutting.{FreeOfAll}
-use Rattle.values.proofs.Keeping.{free-more}
+use Rattle.values.proofs.Keeping.{free-more, first-here, first-none}
 use Rattle.values.proofs.spread.find_all.Statement.{statement}
 use Rattle.values.proofs.spread.find_all.Tie as tie
 use Rattle.values.proofs.spread.begins_all.Reads as begins-all-reads
@@ -25,7 +25,7 @@ begins-all-requires : tie.Need-begins-all-requires Inv-loop μ-loop
 begins-all-requires c κs = search needs
 
 returns : tie.Need-returns Inv-loop μ-loop
-returns c = c .before .before .before .loop .inv
+returns c = first-here _ _ _ (c .before .before .before .loop .inv) (sym (c .before .begins-all .ensures) ∙ c .if1 .taken)
 
 add-i : tie.Need-add-i Inv-loop μ-loop
 add-i c = search needs
@@ -37,7 +37,7 @@ loop-again : tie.Need-loop-again Inv-loop μ-loop
 loop-again c = free-more _ _ _ (c .before .before .before .loop .inv) (c .before .before .loop-test .taken) (sym (c .before .begins-all .ensures) ∙ c .if1 .left)
 
 returns-2 : tie.Need-returns-2 Inv-loop μ-loop
-returns-2 c = c .before .loop .inv
+returns-2 c = first-none _ _ _ (c .before .loop .inv) (c .loop-test .left)
 
 pub find-all-spec : {M : Type 1} → statement M
 find-all-spec =

@@ -4,7 +4,7 @@ use native.Mathlib.Omega.{arith}
 use lib.ListN.{length}
 use mathlib.Core.Path.{sym, _∙_}
 use Rattle.text.specs.Bytes.{part}
-use Rattle.values.proofs.Keeping.{Seeking, seeking-start, seeking-none, seeking-found, seeking-more}
+use Rattle.values.proofs.Keeping.{Seeking, seeking-start, seeking-none, seeking-found, seeking-more, begins-long}
 use Rattle.values.proofs.spread.next_cut.Statement.{statement}
 use Rattle.values.proofs.spread.next_cut.Tie as tie
 use Rattle.values.proofs.spread.cut_end.Reads as cut-end-reads
@@ -34,7 +34,7 @@ add-cut-end : tie.Need-add-cut-end Inv-loop μ-loop
 add-cut-end c = search needs
 
 cut-end-requires : tie.Need-cut-end-requires Inv-loop μ-loop
-cut-end-requires c κs = search needs
+cut-end-requires c κs = begins-long _ _ (c .before .if1 .left) (c .before .before .find-all .ensures .here (c .before .if1 .left))
 
 sub-ends-all : tie.Need-sub-ends-all Inv-loop μ-loop
 sub-ends-all c = search needs

@@ -10,7 +10,7 @@ use Rattle.values.proofs.spread.put_spread.Statement.{statement}
 use Rattle.values.proofs.spread.put_spread.Tie as tie
 use Rattle.values.proofs.spread.next_cut.Reads as next-cut-reads
 use Rattle.values.proofs.spread.put_copies.Reads as put-copies-reads
-use Rattle.values.proofs.write.put_text.Reads as put-text-reads
+use Rattle.values.proofs.spread.put_kept.Reads as put-kept-reads
 
 abbrev Inv-loop : tie.InvT-loop
 Inv-loop t n out₀ at i₀ o₀ out i o = Spreading t n out₀ out at i o
@@ -27,24 +27,24 @@ loop-holds c = spreading-start _ _ _ _ (c .before .before .before .pre .1) (c .b
 next-cut-requires : tie.Need-next-cut-requires Inv-loop μ-loop
 next-cut-requires c κs = search needs
 
-sub-put-text : tie.Need-sub-put-text Inv-loop μ-loop
-sub-put-text c = c .next-cut .ensures .low
+sub-put-kept : tie.Need-sub-put-kept Inv-loop μ-loop
+sub-put-kept c = c .next-cut .ensures .low
 
-part-put-text-start : tie.Need-part-put-text-start Inv-loop μ-loop
-part-put-text-start c = c .next-cut .ensures .low
+part-put-kept-start : tie.Need-part-put-kept-start Inv-loop μ-loop
+part-put-kept-start c = c .next-cut .ensures .low
 
-part-put-text-end : tie.Need-part-put-text-end Inv-loop μ-loop
-part-put-text-end c = c .next-cut .ensures .high
+part-put-kept-end : tie.Need-part-put-kept-end Inv-loop μ-loop
+part-put-kept-end c = c .next-cut .ensures .high
 
-put-text-requires : tie.Need-put-text-requires Inv-loop μ-loop
-put-text-requires c κs = search needs
+put-kept-requires : tie.Need-put-kept-requires Inv-loop μ-loop
+put-kept-requires c κs = c .before .before .before .loop .inv .left .low
 
 same-length : tie.Need-same-length Inv-loop μ-loop
-same-length c = c .before .before .before .put-text .kept .1 .0 ∙ c .before .before .before .before .before .before .before .loop .inv .left .long
+same-length c = c .before .before .before .put-kept .kept .1 .0 ∙ c .before .before .before .before .before .before .before .loop .inv .left .long
 
 returns-2 : tie.Need-returns-2 Inv-loop μ-loop
 unfolding part
-returns-2 c = spreading-end _ _ _ _ _ _ _ (c .before .before .before .before .before .before .before .loop .inv) _ (c .before .before .before .before .before .before .next-cut .ensures) _ _ (c .before .before .before .put-text .ensures) (c .if2 .taken)
+returns-2 c = spreading-end _ _ _ _ _ _ _ (c .before .before .before .before .before .before .before .loop .inv) _ (c .before .before .before .before .before .before .next-cut .ensures) _ _ (c .before .before .before .put-kept .ensures) (c .if2 .taken)
 
 sub-put-copies : tie.Need-sub-put-copies Inv-loop μ-loop
 sub-put-copies c = omega (arith, c .before .before .before .before .before .before .next-cut .ensures .long (c .if2 .left))
@@ -60,14 +60,14 @@ part-put-copies-end c = omega (arith, c .before .before .before .before .before 
 
 put-copies-requires : tie.Need-put-copies-requires Inv-loop μ-loop
 unfolding part
-put-copies-requires c κs = let w = spreading-copies _ _ _ _ _ _ _ (c .before .before .before .before .before .before .before .before .before .loop .inv) _ (c .before .before .before .before .before .before .before .before .next-cut .ensures) _ _ (c .before .before .before .before .before .put-text .ensures) (c .before .before .if2 .left) in (c .before .before .before .before .before .before .before .before .before .before .before .before .before .pre .0, omega (arith, w .long, c .before .before .before .before .before .before .before .before .before .before .before .before .before .pre .1), w .low)
+put-copies-requires c κs = let w = spreading-copies _ _ _ _ _ _ _ (c .before .before .before .before .before .before .before .before .before .loop .inv) _ (c .before .before .before .before .before .before .before .before .next-cut .ensures) _ _ (c .before .before .before .before .before .put-kept .ensures) (c .before .before .if2 .left) in (c .before .before .before .before .before .before .before .before .before .before .before .before .before .pre .0, omega (arith, w .long, c .before .before .before .before .before .before .before .before .before .before .before .before .before .pre .1), w .low)
 
 loop-less : tie.Need-loop-less Inv-loop μ-loop
 loop-less c = omega (arith, c .before .before .before .before .before .before .before .before .before .before .before .next-cut .ensures .low, c .before .before .before .before .before .before .before .before .before .before .before .next-cut .ensures .long (c .before .before .before .before .before .if2 .left), c .before .before .before .before .before .if2 .left)
 
 loop-again : tie.Need-loop-again Inv-loop μ-loop
 unfolding part
-loop-again c = spreading-more _ _ _ _ _ _ _ (c .before .before .before .before .before .before .before .before .before .before .before .before .loop .inv) _ (c .before .before .before .before .before .before .before .before .before .before .before .next-cut .ensures) _ _ (c .before .before .before .before .before .before .before .before .put-text .ensures) (c .before .before .before .before .before .if2 .left) _ _ (c .before .before .put-copies .ensures)
+loop-again c = spreading-more _ _ _ _ _ _ _ (c .before .before .before .before .before .before .before .before .before .before .before .before .loop .inv) _ (c .before .before .before .before .before .before .before .before .before .before .before .next-cut .ensures) _ _ (c .before .before .before .before .before .before .before .before .put-kept .ensures) (c .before .before .before .before .before .if2 .left) _ _ (c .before .before .put-copies .ensures)
 
 pub put-spread-spec : {M : Type 1} → statement M
 put-spread-spec =
@@ -78,10 +78,10 @@ put-spread-spec =
     returns
     loop-holds
     next-cut-requires
-    sub-put-text
-    part-put-text-start
-    part-put-text-end
-    put-text-requires
+    sub-put-kept
+    part-put-kept-start
+    part-put-kept-end
+    put-kept-requires
     same-length
     returns-2
     sub-put-copies
