@@ -74,6 +74,7 @@ fn compare(settings: &Settings) -> Result<u64, String> {
     for (name, list) in [
         ("every byte", edges::bytes()),
         ("percent items", edges::percent_items()),
+        ("signs and :all", edges::signs_and_all()),
         ("headings", edges::headings()),
         ("faulty lines", edges::faulty_lines()),
         ("line places", edges::line_places()),
