@@ -5,12 +5,12 @@ use mathlib.Core.Path.{_≡_, refl, sym, ap, _∙_}
 use mathlib.Core.List.{List, [], _∷_}
 use mathlib.Core.Bool.{Bool, true, false, _||_, cond}
 use lib.ListN.{length, getD, drop}
-use lib.Dec.{leb}
-use borrow.Author.Tests.{eq-eqb, ne-eqb, eqb-true}
+use lib.Dec.{eqb, leb}
+use borrow.Author.Tests.{eq-eqb, ne-eqb, eqb-true, eqb-false}
 use Rattle.text.specs.Limits.{mostGroups}
 use Rattle.text.specs.Bytes.{Text, same, anyOf, first, rest, part}
 use Rattle.text.specs.Reading.{left, ahead, follow, Opens, FoundWord, Passed}
-use Rattle.text.proofs.Lists.{nil-left}
+use Rattle.text.proofs.Lists.{no, nil-left}
 use Rattle.text.proofs.Positions.{part-cons}
 use Rattle.text.proofs.Readers.{lineAt, line-first}
 use Rattle.profile.specs.Profile.{Profile}
@@ -27,7 +27,7 @@ use Rattle.lookup.proofs.Adding.{names-length}
 use Rattle.firing.specs.declared.Cursors.{Cursors}
 use Rattle.firing.specs.Writing.{Low, runBuf, runCur}
 use Rattle.matching.specs.Groups.{groupsAt, Noted}
-use Rattle.resolver.specs.Running.{leftFirings, WalkedLine}
+use Rattle.resolver.specs.Running.{leftFirings, WalkedLine, FirstWordAt}
 use Rattle.resolver.proofs.HeadingLines.{heading-is}
 use Rattle.resolver.proofs.LineFirings.{nextFirings, firings-line}
 use Rattle.resolver.proofs.RuleLines.{words-from}
@@ -60,6 +60,20 @@ not-dollar s from m a e l f u z = rw (first-word s from m a e l f u) (dollar-no 
 pub none-dollar : (s : Text) (from : ℕ) → left s from ≡ [] → hasDollar (getD (left s from) 0 []) ≡ false
 unfolding hasDollar first
 none-dollar s from e = rw e refl
+
+-- the first word of a heading, found or not
+pub first-found : (s : Text) (from m a e l f : ℕ) → FoundWord s from m a e l f →
+    FirstWordAt s from m (record { dollar = eqb (getD s a 0) 36; start = a; end = e; line = l })
+first-found s from m a e l f u =
+    record {
+      fault = f;
+      word = λ h. u;
+      yes = λ h. dollar-yes s a e (u .some) (u .high) (eqb-true (getD s a 0) 36 h);
+      no = λ h. not-dollar s from m a e l f u (eqb-false (getD s a 0) 36 h);
+    }
+
+pub first-none : (s : Text) (from m : ℕ) → left s from ≡ [] → FirstWordAt s from m (record { dollar = false; start = from; end = from; line = m })
+first-none s from m e = record { fault = 0; word = λ h. absurd (no h); yes = λ h. absurd (no h); no = λ h. none-dollar s from e }
 
 pub tail-dollar : (s : Text) (from : ℕ) (x : Text) → x ≡ drop from s → hasDollar (getD (left s from) 0 []) ≡ false → hasDollar (getD (wordsOf x) 0 []) ≡ false
 tail-dollar s from x e h = rw (words-from s from x e) h

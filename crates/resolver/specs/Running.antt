@@ -3,12 +3,13 @@ use Prim.Native.Nat.{ℕ, _+_, _≤_, _<_}
 use mathlib.Core.Path.{_≡_}
 use mathlib.Core.List.{List, []}
 use mathlib.Core.Bool.{Bool, true, false}
-use lib.ListN.{length, drop}
-use Rattle.text.specs.Bytes.{Text, Words, concatMap}
+use lib.ListN.{length, drop, getD}
+use Rattle.text.specs.Bytes.{Text, Words, part, concatMap}
 use Rattle.text.specs.Lines.{Line}
-use Rattle.text.specs.Reading.{left, follow, Passed, Opens}
+use Rattle.text.specs.Reading.{left, follow, FoundWord, Passed, Opens}
 use Rattle.profile.specs.Profile.{Profile}
 use Rattle.rules.specs.declared.Progress.{Progress}
+use Rattle.rules.specs.Words.{hasDollar}
 use Rattle.rules.specs.Headings.{Heading, upFrom}
 use Rattle.rules.specs.Sections.{Rule, applies, sections}
 use Rattle.rules.specs.Faults.{Groups, rightWords}
@@ -18,6 +19,7 @@ use Rattle.firing.specs.declared.Cursors.{Cursors}
 use Rattle.resolver.specs.declared.Walk.{Walk}
 use Rattle.resolver.specs.declared.RuleRun.{RuleRun}
 use Rattle.resolver.specs.declared.HeadingAt.{HeadingAt}
+use Rattle.resolver.specs.declared.FirstWord.{FirstWord}
 use Rattle.answers.specs.Matching.{members}
 use Rattle.answers.specs.Firings.{Firing, setFires, headFires, firings, fileFirings}
 use Rattle.firing.specs.Writing.{Low, FiredRule, startingAt, runBuf, runCur}
@@ -92,3 +94,10 @@ pub record NextHeading (s : Text) (at n : ℕ) (r : HeadingAt) : Type 0 where
   pub clean : (ns : List Text) (h : Present) → checkFrom ns h (follow s at n) ≡ [] → checkFrom ns h (follow s (r .start) (r .number)) ≡ []
   pub opens : r .found ≡ true → (r .start < length s) × Opens s (r .start) (r .number) true (r .at) (r .line)
   pub none : r .found ≡ false → length s ≤ r .start
+
+-- the first word of a line from `from` on, in the physical line n: it begins with `$`, or the line has no such word
+pub record FirstWordAt (s : Text) (from n : ℕ) (r : FirstWord) : Type 0 where
+  pub fault : ℕ
+  pub word : r .dollar ≡ true → FoundWord s from n (r .start) (r .end) (r .line) fault
+  pub yes : r .dollar ≡ true → hasDollar (part s (r .start) (r .end)) ≡ true
+  pub no : r .dollar ≡ false → hasDollar (getD (left s from) 0 []) ≡ false

@@ -27,6 +27,14 @@ pub struct HeadingAt {
     pub line: usize,
 }
 
+// The first word of a heading: whether it names a group, where it starts and ends, and the physical line that it stands in.
+pub struct FirstWord {
+    pub dollar: bool,
+    pub start: usize,
+    pub end: usize,
+    pub line: usize,
+}
+
 // The answer of a resolve, and how many headings of the file are listed.
 pub struct ListedAnswer {
     pub outcome: answers::Outcome,

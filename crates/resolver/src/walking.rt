@@ -1,8 +1,8 @@
 // The walk over an accepted file, from heading to heading: groups are noted, sets are run.
 ghost use mathlib.Core.Path.{_≡_};
 ghost use mathlib.Core.Bool.{true, false};
-ghost use mathlib.Core.List.{[]};
-ghost use Prim.Native.Nat.{_≤_, _<_, _+_, min};
+ghost use mathlib.Core.List.{List, []};
+ghost use Prim.Native.Nat.{ℕ, _≤_, _<_, _+_, min};
 ghost use lib.ListN.{length, getD};
 ghost use Rattle.text.specs.Limits.{mostOptions};
 ghost use Rattle.text.specs.Reading.{Table, Fenced, Within, Opens, left};
@@ -17,7 +17,8 @@ ghost use Rattle.resolver.specs.Heads.{AllHeads, NextHead, KthHeading};
 ghost use Rattle.values.specs.Filling.{Short};
 ghost use Rattle.matching.specs.Groups.{Rowed};
 ghost use Rattle.firing.specs.Writing.{Low};
-ghost use Rattle.resolver.specs.Running.{NextHeading, WalkedLine, WalkedFile};
+ghost use Rattle.resolver.specs.Running.{NextHeading, FirstWordAt, WalkedLine, WalkedFile};
+use super::FirstWord;
 use super::HeadingAt;
 use super::Walk;
 use super::running::run_heading;
@@ -192,6 +193,95 @@ fn walk_set(
     }
 }
 
+// The first word of a heading, whose words begin at `from`.
+fn first_word(s: &[u8], t: &[u8; 512], fence: usize, from: usize, number: usize) -> FirstWord
+    requires { ⌜ Within (now s) (now t) fence from number ⌝ }
+    ensures { λ r. ⌜ FirstWordAt (now (s .entry)) from number r ⌝ }
+{
+    match word_at(s, t, fence, from, number) {
+        Next::Found {
+            start,
+            end,
+            line,
+            fault: _,
+        } => FirstWord {
+            dollar: s[start] == b'$',
+            start,
+            end,
+            line,
+        },
+        Next::Stop { next: _, line: _ } => FirstWord {
+            dollar: false,
+            start: from,
+            end: from,
+            line: number,
+        },
+    }
+}
+
+// The heading of a group, whose words begin at `from` with `x`: the group is noted.
+fn walk_group(
+    s: &[u8],
+    t: &[u8; 512],
+    fence: usize,
+    names: &mut [usize; 192],
+    rows: &mut [bool; 640],
+    model: &[u8],
+    layouts: &[u8],
+    variants: &[u8],
+    options: &[u8],
+    table: &[usize; 192],
+    listed: usize,
+    from: usize,
+    number: usize,
+    x: FirstWord,
+    w: Walk,
+) -> Walk
+    requires { ⌜ Table (now t) × Fenced (now s) fence × Ready (now s) (now names) (w .progress)
+        × Rowed (profileOf (textsOf (now model) (now layouts) (now variants) (now options))) (now s) (now names) (now rows) (w .progress .groups)
+        × Listed (now options) (now table) listed × (length (optionsOf (now options)) ≤ mostOptions) × Low (w .cursors .at)
+        × (w .progress .at < length (now s)) × (leftFaults (now s) (now names) (w .progress) ≡ [])
+        × Opens (now s) (w .progress .at) (w .progress .line) true from number × FirstWordAt (now s) from number x × (x .dollar ≡ true) ⌝ }
+    ensures { λ r. ⌜ ((d : List ℕ) → WalkedLine (profileOf (textsOf (now (model .entry)) (now (layouts .entry)) (now (variants .entry)) (now (options .entry))))
+        (now (s .entry)) (now (names .entry)) (now (names .exit)) (now (rows .exit)) d d w r) ⌝ }
+{
+    let p = w.progress;
+    let groups = p.groups;
+    let e = note_group(
+        s,
+        t,
+        fence,
+        x.start + 1,
+        x.end,
+        x.line,
+        names,
+        model,
+        layouts,
+        variants,
+        options,
+        table,
+        listed,
+        rows,
+        groups,
+    );
+    let cursors = w.cursors;
+    Walk {
+        progress: Progress {
+            at: e.at,
+            line: e.line,
+            groups: groups + 1,
+            present: Present {
+                form: 0,
+                left: 0,
+                right: 0,
+            },
+            fault: 0,
+            heading: true,
+        },
+        cursors,
+    }
+}
+
 // A heading, whose words begin at `from`: a group is noted, a set is run.
 fn walk_heading(
     s: &[u8],
@@ -226,94 +316,47 @@ fn walk_heading(
     ensures { λ r. ⌜ WalkedLine (profileOf (textsOf (now (model .entry)) (now (layouts .entry)) (now (variants .entry)) (now (options .entry))))
         (now (s .entry)) (now (names .entry)) (now (names .exit)) (now (rows .exit)) (now (buf .entry)) (now (buf .exit)) w r ⌝ }
 {
-    match word_at(s, t, fence, from, number) {
-        Next::Found {
-            start,
-            end,
-            line,
-            fault: _,
-        } => {
-            if s[start] != b'$' {
-                return walk_set(
-                    s,
-                    t,
-                    fence,
-                    places,
-                    names,
-                    rows,
-                    model,
-                    layouts,
-                    variants,
-                    bounds,
-                    options,
-                    table,
-                    listed,
-                    n,
-                    scratch,
-                    buf,
-                    from,
-                    number,
-                    w,
-                );
-            }
-            let p = w.progress;
-            let groups = p.groups;
-            let e = note_group(
-                s,
-                t,
-                fence,
-                start + 1,
-                end,
-                line,
-                names,
-                model,
-                layouts,
-                variants,
-                options,
-                table,
-                listed,
-                rows,
-                groups,
-            );
-            let cursors = w.cursors;
-            Walk {
-                progress: Progress {
-                    at: e.at,
-                    line: e.line,
-                    groups: groups + 1,
-                    present: Present {
-                        form: 0,
-                        left: 0,
-                        right: 0,
-                    },
-                    fault: 0,
-                    heading: true,
-                },
-                cursors,
-            }
-        }
-        Next::Stop { next: _, line: _ } => walk_set(
+    let x = first_word(s, t, fence, from, number);
+    if x.dollar {
+        return walk_group(
             s,
             t,
             fence,
-            places,
             names,
             rows,
             model,
             layouts,
             variants,
-            bounds,
             options,
             table,
             listed,
-            n,
-            scratch,
-            buf,
             from,
             number,
+            x,
             w,
-        ),
+        );
     }
+    walk_set(
+        s,
+        t,
+        fence,
+        places,
+        names,
+        rows,
+        model,
+        layouts,
+        variants,
+        bounds,
+        options,
+        table,
+        listed,
+        n,
+        scratch,
+        buf,
+        from,
+        number,
+        w,
+    )
 }
 
 // The walk over a file whose lines are accepted: all that fires is written.
