@@ -1,9 +1,9 @@
 -- The firings and the ten texts of a joined file.
 use Prim.Native.Nat.{ℕ, zero, suc}
 use mathlib.Core.Path.{_≡_, refl, ap}
-use mathlib.Core.List.{List, [], _∷_, _++_, map}
-use mathlib.Core.Bool.{true, cond}
-use Rattle.text.specs.Bytes.{Text, empty, allOf, apart}
+use mathlib.Core.List.{List, [], _++_, map}
+use mathlib.Core.Bool.{true}
+use Rattle.text.specs.Bytes.{Text, allOf, apart}
 use Rattle.text.specs.Lines.{lines, closed}
 use Rattle.text.proofs.Joined.{physical}
 use Rattle.profile.specs.Profile.{Texts, Profile, profileOf}

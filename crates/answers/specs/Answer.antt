@@ -7,7 +7,7 @@ use lib.ListN.{length, take, drop, replicate}
 use lib.Dec.{ltb}
 use Rattle.text.specs.declared.Refusal.{Refusal}
 use Rattle.text.specs.Limits.{longestTotal}
-use Rattle.text.specs.Bytes.{Text, concatMap}
+use Rattle.text.specs.Bytes.{Text}
 use Rattle.text.specs.Refusals.{refusedIf}
 use Rattle.profile.specs.Profile.{Texts, profileOf}
 use Rattle.profile.specs.Refusals.{profileRefusals}

@@ -1,7 +1,7 @@
 -- A component of its fired values. Document 01, "Base and additions".
 use Prim.Native.Nat.{ℕ}
 use mathlib.Core.List.{List, [], _∷_, _++_}
-use mathlib.Core.Bool.{Bool, cond}
+use mathlib.Core.Bool.{cond}
 use lib.Dec.{eqb}
 use Rattle.text.specs.Bytes.{Text, empty}
 use Rattle.values.specs.Spread.{signed}

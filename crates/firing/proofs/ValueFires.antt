@@ -2,7 +2,7 @@
 use Prim.Native.Nat.{ℕ, zero, suc, _+_, _-_, _≤_, _<_}
 use native.Mathlib.Omega.{arith}
 use native.Mathlib.Numerals.{add-one}
-use mathlib.Core.Path.{_≡_, refl, sym, ap, _∙_}
+use mathlib.Core.Path.{_≡_, refl, sym, ap}
 use mathlib.Core.List.{List, [], _∷_, _++_}
 use mathlib.Core.Bool.{Bool, true, false, _||_}
 use lib.ListN.{length, take, drop, getD, length-take, drop-of-length-le}
@@ -18,7 +18,7 @@ use Rattle.values.specs.Filling.{Filled}
 use Rattle.values.specs.Spread.{cuts, spread, expanded}
 use Rattle.values.proofs.Profiles.{expanded-by}
 use Rattle.firing.specs.declared.Cursors.{Cursors}
-use Rattle.answers.specs.Firings.{Firing, fired, ruleFires}
+use Rattle.answers.specs.Firings.{fired, ruleFires}
 use Rattle.firing.specs.Writing.{FiredOne, Low, runBuf, runCur, FiredRule, ShortWords}
 use Rattle.firing.proofs.Going.{Going, going-start, going-more, going-end}
 

@@ -2,9 +2,9 @@
 use Prim.Native.Nat.{ℕ, zero, suc, _+_, _*_, _≤_, _<_}
 use native.Mathlib.Omega.{arith}
 use mathlib.Core.Path.{_≡_, refl, sym, ap, _∙_}
-use mathlib.Core.List.{List, [], _∷_}
+use mathlib.Core.List.{List, []}
 use mathlib.Core.Bool.{Bool, true, false, cond}
-use lib.ListN.{length, getD, drop}
+use lib.ListN.{getD, drop}
 use lib.Dec.{eqb, leb}
 use Rattle.text.specs.Bytes.{Text, same, anyOf}
 use Rattle.text.specs.Reading.{left}
@@ -12,7 +12,7 @@ use Rattle.lookup.specs.Names.{nameAt, numberOf, mostNames}
 use Rattle.lookup.proofs.Ranking.{number-few}
 use Rattle.profile.specs.Profile.{Profile}
 use Rattle.answers.specs.Matching.{members}
-use Rattle.matching.specs.Groups.{groupsAt, asked, Rowed}
+use Rattle.matching.specs.Groups.{groupsAt, asked}
 use Rattle.matching.specs.Rows.{Told, ofGroup}
 
 -- no word, no answer

@@ -1,11 +1,11 @@
 -- One group more in the table of names.
-use Prim.Native.Nat.{ℕ, zero, suc, _+_, _*_, _≤_, _<_}
+use Prim.Native.Nat.{ℕ, zero, suc, _+_, _≤_}
 use native.Mathlib.Omega.{arith}
 use native.Mathlib.Numerals.{add-one}
 use mathlib.Core.Path.{_≡_, refl}
-use mathlib.Core.List.{List, [], _∷_}
+use mathlib.Core.List.{List, _∷_}
 use mathlib.Core.Bool.{Bool}
-use lib.ListN.{getD, drop}
+use lib.ListN.{drop}
 use Rattle.text.specs.Bytes.{Text, part}
 use Rattle.text.specs.Reading.{left}
 use Rattle.lookup.specs.Names.{nameAt, Added}

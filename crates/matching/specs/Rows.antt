@@ -1,11 +1,11 @@
 -- What the readers and the writer of the groups' rows promise.
 use Prim.Native.Nat.{ℕ, _+_, _*_, _-_, _<_}
 use mathlib.Core.Path.{_≡_}
-use mathlib.Core.List.{List, [], _∷_}
-use mathlib.Core.Bool.{Bool, true, false, not, _||_, cond}
+use mathlib.Core.List.{List, []}
+use mathlib.Core.Bool.{Bool, false, not, _||_, cond}
 use lib.Dec.{eqb}
 use lib.ListN.{length, getD, drop}
-use Rattle.text.specs.Bytes.{Text, Words, same, empty, rest, anyOf}
+use Rattle.text.specs.Bytes.{Text, Words, same, empty, rest}
 use Rattle.text.specs.Reading.{left}
 use Rattle.profile.specs.Profile.{Texts, Profile, fields, profileOf}
 use Rattle.rules.specs.Words.{hasDollar, isStar}

@@ -1,7 +1,7 @@
 -- A text written into a lent buffer from a position on. A byte behind the buffer's end is counted and not stored.
 use Prim.Native.Nat.{ℕ, _+_, min}
 use mathlib.Core.Path.{_≡_}
-use mathlib.Core.List.{List, [], _∷_}
+use mathlib.Core.List.{[], _∷_}
 use lib.ListN.{length, set}
 use Rattle.text.specs.Bytes.{Text}
 

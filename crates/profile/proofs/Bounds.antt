@@ -9,7 +9,7 @@ use lib.ListN.{length, drop, getD, set, length-set, drop-of-length-le}
 use lib.Seq.{getD-set-same, getD-set-other}
 use borrow.Author.Tests.{ltb-true, ltb-false}
 use Rattle.text.specs.Limits.{mostLayouts}
-use Rattle.text.specs.Bytes.{Text, part}
+use Rattle.text.specs.Bytes.{Text}
 use Rattle.text.proofs.Comparing.{drop-at}
 use Rattle.profile.specs.Profile.{fields}
 use Rattle.profile.specs.Splitting.{behind, FieldEnd}

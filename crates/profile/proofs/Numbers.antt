@@ -1,6 +1,5 @@
 -- Each refusal of a profile has a number of document 01.
 use mathlib.Core.Path.{_≡_, refl}
-use mathlib.Core.List.{_++_}
 use mathlib.Core.Bool.{true}
 use Rattle.text.specs.Bytes.{allOf}
 use Rattle.text.specs.Refusals.{refusedIf, isNumber, hasNumber}

@@ -1,12 +1,12 @@
 -- Options that are reordered or repeated: the profile and its refusals are the same.
-use Prim.Native.Nat.{ℕ, _≤_}
+use Prim.Native.Nat.{ℕ}
 use mathlib.Core.Path.{_≡_, refl, sym, ap, _∙_, fun-ext}
 use mathlib.Core.List.{List, [], _∷_}
 use mathlib.Core.Bool.{Bool, true, false, _||_, cond, or-assoc, or-false}
 use lib.Dec.{eqb, ltb}
 use lib.ListN.{length}
 use borrow.Author.Tests.{le-ltb, eqb-true}
-use Rattle.text.specs.Limits.{longestText, longestField, mostOptions}
+use Rattle.text.specs.Limits.{longestText, mostOptions}
 use Rattle.text.specs.Bytes.{Text, empty, anyOf}
 use Rattle.text.proofs.Lists.{any-alike}
 use Rattle.profile.specs.Profile.{Texts, push, fields, dropEmpty, optionsOf, profileOf}

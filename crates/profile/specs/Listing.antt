@@ -2,7 +2,7 @@
 use Prim.Native.Nat.{ℕ, _+_, _≤_}
 use mathlib.Core.Path.{_≡_}
 use mathlib.Core.List.{List}
-use mathlib.Core.Bool.{Bool, _||_}
+use mathlib.Core.Bool.{_||_}
 use lib.ListN.{take}
 use Rattle.text.specs.Limits.{mostOptions}
 use Rattle.text.specs.Bytes.{Text, part, same, anyOf}

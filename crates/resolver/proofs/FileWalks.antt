@@ -1,7 +1,6 @@
 -- The walk over a file: the loop over its lines.
-use Prim.Native.Nat.{ℕ, _≤_, _<_}
-use native.Mathlib.Omega.{arith}
-use mathlib.Core.Path.{_≡_, refl, sym, ap, _∙_}
+use Prim.Native.Nat.{ℕ, _≤_}
+use mathlib.Core.Path.{_≡_, sym, _∙_}
 use mathlib.Core.List.{List, []}
 use mathlib.Core.Bool.{Bool, false}
 use lib.ListN.{length}
@@ -19,7 +18,7 @@ use Rattle.resolver.specs.declared.HeadingAt.{HeadingAt}
 use Rattle.answers.specs.Firings.{fileFirings}
 use Rattle.firing.specs.Writing.{Low}
 use Rattle.matching.specs.Groups.{groupsAt, Rowed}
-use Rattle.resolver.specs.Running.{firingsFrom, leftFirings, NextHeading, WalkedLine, WalkedFile}
+use Rattle.resolver.specs.Running.{leftFirings, NextHeading, WalkedLine, WalkedFile}
 use Rattle.matching.proofs.Filling.{rowed-none}
 use Rattle.firing.proofs.Going.{Going, going-start, going-end}
 use Rattle.resolver.proofs.LineFirings.{firings-start, firings-none}

@@ -1,10 +1,10 @@
 -- A heading that is not refused: by its first word it is a group line, or a set's.
-use Prim.Native.Nat.{ℕ, _+_, _≤_, _<_}
+use Prim.Native.Nat.{ℕ, _≤_, _<_}
 use native.Mathlib.Omega.{arith}
 use mathlib.Core.Path.{_≡_, refl, sym, ap, _∙_}
 use mathlib.Core.List.{List, [], _∷_, map}
 use mathlib.Core.Bool.{Bool, true, false, _&&_, cond}
-use lib.ListN.{length, getD, drop}
+use lib.ListN.{length, getD}
 use lib.Dec.{eqb}
 use borrow.Author.Tests.{eqb-true, eqb-false, eq-eqb}
 use Rattle.text.specs.Bytes.{Text, Words, bytes, same, rest, allOf}
@@ -14,7 +14,7 @@ use Rattle.rules.specs.declared.Present.{Present}
 use Rattle.rules.specs.declared.LineKind.the-variants as kind
 use Rattle.rules.specs.Words.{isEquals, hasDollar, isGroupName, ordinary}
 use Rattle.rules.specs.Headings.{Heading, leftItem, componentOf, goodItems, headingOf}
-use Rattle.rules.specs.Entries.{Entry, wrong, group, set, before, after, setShape, setEntry, groupEntry, headingEntry, ruleEntry, entryOf}
+use Rattle.rules.specs.Entries.{Entry, wrong, group, set, before, after, setShape, setEntry, groupEntry, headingEntry, entryOf}
 use Rattle.rules.specs.Checking.{lineOf, lineFault, IsKind}
 use Rattle.resolver.proofs.SetRuns.{fault-wrong, entry-faulty}
 

@@ -2,21 +2,21 @@
 use Prim.Native.Nat.{ℕ, _+_, _≤_, _<_}
 use native.Mathlib.Omega.{arith}
 use mathlib.Core.Path.{_≡_, refl, sym, ap, _∙_}
-use mathlib.Core.List.{List, [], _++_}
+use mathlib.Core.List.{List, []}
 use mathlib.Core.Bool.{Bool, true, false}
 use lib.ListN.{length}
 use Rattle.text.specs.Bytes.{Text, anyOf, concatMap}
 use Rattle.text.specs.Lines.{Line}
-use Rattle.profile.specs.Profile.{fields, Profile, Texts, profileOf, layoutCount}
+use Rattle.profile.specs.Profile.{fields, Texts, profileOf, layoutCount}
 use Rattle.rules.specs.declared.SetHeading.{SetHeading}
 use Rattle.rules.specs.Headings.{Heading, upFrom}
-use Rattle.rules.specs.Sections.{Rule, applies}
+use Rattle.rules.specs.Sections.{applies}
 use Rattle.rules.specs.Faults.{Groups}
 use Rattle.firing.specs.declared.Cursors.{Cursors}
 use Rattle.matching.specs.declared.Range.{Range}
 use Rattle.answers.specs.Matching.{members, isOptions}
 use Rattle.answers.specs.Layouts.{layoutsOf, perLayout}
-use Rattle.answers.specs.Firings.{Firing, setFires, headFires}
+use Rattle.answers.specs.Firings.{setFires, headFires}
 use Rattle.matching.specs.Ranges.{FromOne}
 use Rattle.matching.specs.Held.{headingBy}
 use Rattle.resolver.specs.Running.{rulesFrom, FiredRange, FiredHeading}

@@ -1,13 +1,12 @@
 -- The firings of a file, met line by line: what the walk knows.
 use Prim.Native.Nat.{ℕ}
-use mathlib.Core.Path.{_≡_, refl, sym, ap, _∙_}
+use mathlib.Core.Path.{_≡_, refl, ap, _∙_}
 use mathlib.Core.List.{List, [], _∷_, _++_}
-use Rattle.text.specs.Bytes.{Text, Words}
+use Rattle.text.specs.Bytes.{Text}
 use Rattle.text.specs.Lines.{Line, lines}
 use Rattle.profile.specs.Profile.{Profile}
-use Rattle.rules.specs.Headings.{Heading}
 use Rattle.rules.specs.Entries.{Entry, ignored, wrong, group, set, rule, entryOf}
-use Rattle.rules.specs.Sections.{Rule, bad, defines, applies, Section, Sections, addEntry, sections}
+use Rattle.rules.specs.Sections.{Rule, applies, Section, Sections, addEntry, sections}
 use Rattle.rules.specs.Faults.{Group, Groups, withGroup}
 use Rattle.rules.proofs.Shifted.{sections-cons, sections-nil}
 use Rattle.answers.specs.Firings.{Firing, headFires, firings, fileFirings}

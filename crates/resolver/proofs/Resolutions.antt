@@ -1,5 +1,5 @@
 -- What follows of a resolve: of its answer and of its buffer.
-use Prim.Native.Nat.{ℕ, _+_, _≤_}
+use Prim.Native.Nat.{_+_, _≤_}
 use native.Mathlib.Omega.{arith}
 use mathlib.Core.Path.{_≡_, refl, sym, ap, _∙_}
 use mathlib.Core.Bool.{true}
@@ -17,7 +17,7 @@ use Rattle.answers.specs.Answer.{tenTexts, sum, joined, total, Answer, refused,
 use Rattle.answers.specs.Joined.{together}
 use Rattle.answers.proofs.Answers.{answered, joined-answer, options-answer}
 use Rattle.answers.proofs.Stretch.{joined-length}
-use Rattle.resolver.proofs.Resolves.{Accepts, accepts}
+use Rattle.resolver.proofs.Resolves.{accepts}
 
 -- the ten texts, read back by their lengths
 texts-back : (ts : List Text) (r : Text) → textsIn (joined ts ++ r) (map length ts) ≡ ts

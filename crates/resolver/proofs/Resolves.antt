@@ -2,8 +2,8 @@
 use Prim.Native.Nat.{ℕ, _-_, _≤_}
 use mathlib.Core.Path.{_≡_, refl, sym, ap, _∙_}
 use mathlib.Core.List.{List, [], _∷_, _++_, map}
-use mathlib.Core.Bool.{Bool, true, false, _||_, _&&_}
-use lib.ListN.{length, take, replicate}
+use mathlib.Core.Bool.{Bool, true, false}
+use lib.ListN.{length, take}
 use lib.Seq.{length-take-le}
 use lib.Dec.{leb, ltb}
 use native.Mathlib.Omega.{arith}
@@ -27,7 +27,7 @@ use Rattle.rules.proofs.Numbers.{file-numbers}
 use Rattle.values.specs.Filling.{Short}
 use Rattle.answers.specs.declared.Outcome.{Outcome}
 use Rattle.answers.specs.Firings.{fileFirings}
-use Rattle.answers.specs.Answer.{textsFrom, tenTexts, sum, total, noRoom, refusals, Answer, refused, accepted, firstOf, answer, numberOf, placeOf, lengthsOf, outcome, bufferAfter, Answered}
+use Rattle.answers.specs.Answer.{tenTexts, sum, total, noRoom, refusals, Answer, refused, accepted, firstOf, answer, numberOf, placeOf, lengthsOf, outcome, bufferAfter, Answered}
 use Rattle.firing.specs.Writing.{startingAt, runBuf, Low, starts}
 use Rattle.firing.specs.Stage.{stageSize, regions, inRegions, textsAt, Staged}
 use Rattle.answers.proofs.Answers.{neither, answered}

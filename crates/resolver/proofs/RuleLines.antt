@@ -33,7 +33,6 @@ use Rattle.matching.specs.Held.{headingBy, SetSized}
 use Rattle.matching.specs.Left.{LeftSide}
 use Rattle.matching.proofs.HeldHeadings.{columns-length}
 use Rattle.matching.proofs.LeftLoops.{some-left}
-use Rattle.resolver.specs.declared.HeadingAt.{HeadingAt}
 use Rattle.resolver.specs.declared.RuleRun.{RuleRun}
 use Rattle.resolver.specs.Running.{firingsFrom, FiredLine, RanLine, NextHeading}
 use Rattle.resolver.proofs.LineFirings.{nextFirings, firings-line}

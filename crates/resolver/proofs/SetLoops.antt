@@ -2,7 +2,7 @@
 use Prim.Native.Nat.{ℕ, _+_, _-_, _≤_, _<_}
 use native.Mathlib.Omega.{arith}
 use mathlib.Core.Path.{_≡_, refl, sym, ap, _∙_}
-use mathlib.Core.List.{List, [], _∷_, _++_, map, append-nil}
+use mathlib.Core.List.{List, [], _∷_}
 use mathlib.Core.Bool.{Bool, true, false, cond}
 use lib.ListN.{length, getD, take, drop, drop-of-length-le}
 use lib.Dec.{eqb}
@@ -17,7 +17,7 @@ use Rattle.text.proofs.Positions.{lines-nil}
 use Rattle.text.proofs.Readers.{marks-nil, lineAt, line-first}
 use Rattle.profile.specs.Profile.{Profile, textsOf, profileOf}
 use Rattle.rules.specs.Headings.{Heading}
-use Rattle.rules.specs.Entries.{ignored, rule, entryOf}
+use Rattle.rules.specs.Entries.{ignored, rule}
 use Rattle.rules.specs.Faults.{Groups, rightWords}
 use Rattle.rules.specs.declared.SetHeading.{SetHeading}
 use Rattle.rules.specs.Checking.{lineOf, presentOf, checkFrom}
@@ -26,7 +26,7 @@ use Rattle.values.proofs.Profiles.{expanded-options}
 use Rattle.firing.specs.declared.Cursors.{Cursors}
 use Rattle.answers.specs.Matching.{members, ruleMatches}
 use Rattle.matching.specs.Left.{leftMatches}
-use Rattle.answers.specs.Firings.{Firing, fired, ruleFires, setFires}
+use Rattle.answers.specs.Firings.{fired, ruleFires, setFires}
 use Rattle.firing.specs.Writing.{Low, runBuf, runCur, FiredRule}
 use Rattle.matching.specs.Held.{headingBy, SetSized}
 use Rattle.resolver.specs.declared.RuleRun.{RuleRun}

@@ -1,12 +1,10 @@
 -- The rules of a set, run line by line at one layout.
-use Prim.Native.Nat.{ℕ, zero, suc, _+_, _-_, _≤_, _<_}
+use Prim.Native.Nat.{ℕ, zero, _+_, _-_}
 use native.Mathlib.Omega.{arith}
-use native.Mathlib.Numerals.{add-one}
 use mathlib.Core.Path.{_≡_, refl, sym, ap, _∙_}
-use mathlib.Core.List.{List, [], _∷_, _++_, append-nil}
-use mathlib.Core.Bool.{Bool, true, false, not, _||_, _&&_, cond}
-use lib.ListN.{length, getD, drop, drop-of-length-le}
-use lib.Seq.{drop-cons}
+use mathlib.Core.List.{List, [], _∷_, _++_}
+use mathlib.Core.Bool.{Bool, true, false, _&&_, cond}
+use lib.ListN.{length}
 use lib.Dec.{eqb}
 use borrow.Author.Tests.{eqb-true, eqb-false, eq-eqb, ne-eqb}
 use Rattle.text.specs.Bytes.{Text, Words, bytes, same, anyOf, allOf}
@@ -15,20 +13,19 @@ use Rattle.text.specs.Words.{badByte, tooLong, wordsFault}
 use Rattle.text.specs.Refusals.{refusedAs}
 use Rattle.text.proofs.Lists.{no, and-both, nil-left, nil-right}
 use Rattle.profile.specs.Profile.{Profile}
-use Rattle.rules.specs.declared.Column.{Column}
 use Rattle.rules.specs.declared.Column.the-variants as column
 use Rattle.rules.specs.Words.{isEquals, hasDollar, ordinary, isGroupName}
-use Rattle.rules.specs.Headings.{Heading, goodItems, headingOf}
+use Rattle.rules.specs.Headings.{Heading, goodItems}
 use Rattle.rules.specs.Entries.{Entry, ignored, wrong, group, set, rule, setShape, setEntry, groupEntry, headingEntry, ruleEntry, entryOf}
 use Rattle.rules.specs.Sections.{Rule}
-use Rattle.rules.specs.Faults.{Groups, ruleShape, shapeFault, rightWords}
+use Rattle.rules.specs.Faults.{ruleShape, shapeFault, rightWords}
 use Rattle.rules.specs.declared.Present.{Present}
 use Rattle.rules.specs.Checking.{lineOf, presentOf, presentFault, lineFault, presentAfter, namesAfter, checkFrom}
 use Rattle.rules.proofs.Fresh.{as-none}
 use Rattle.rules.proofs.CheckSteps.{check-cons}
 use Rattle.rules.proofs.LineChecks.{form-is}
-use Rattle.answers.specs.Matching.{members, columnMatches, ruleMatches}
-use Rattle.answers.specs.Firings.{Firing, ruleFires, setFires}
+use Rattle.answers.specs.Matching.{ruleMatches}
+use Rattle.answers.specs.Firings.{ruleFires, setFires}
 use Rattle.resolver.specs.Running.{rulesFrom}
 use Rattle.resolver.proofs.LineFirings.{nextRules, rules-line, rules-none}
 

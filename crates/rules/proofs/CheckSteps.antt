@@ -1,18 +1,17 @@
 -- One line of a check: the line that is read, and what is carried on.
-use Prim.Native.Nat.{ℕ, zero, suc, _+_, _*_, _-_, _≤_, _<_}
+use Prim.Native.Nat.{ℕ, zero, _+_, _-_, _≤_, _<_}
 use native.Mathlib.Omega.{arith}
 use native.Mathlib.Nat.{zero-add, add-comm}
 use mathlib.Core.Path.{_≡_, refl, sym, ap, _∙_}
 use mathlib.Core.List.{List, [], _∷_, _++_, map}
-use mathlib.Core.Bool.{Bool, true, false, not, _||_, _&&_, cond, and-false}
+use mathlib.Core.Bool.{Bool, true, false, and-false}
 use lib.ListN.{length, getD, drop, length-drop}
 use lib.Seq.{drop-drop, getD-drop}
-use lib.Dec.{eqb, leb}
+use lib.Dec.{eqb}
 use borrow.Author.Tests.{ne-eqb}
 use Rattle.text.specs.declared.Refusal.{Refusal}
 use Rattle.text.specs.declared.Place.the-variants.{Start, Space}
-use Rattle.text.specs.Limits.{mostGroups}
-use Rattle.text.specs.Bytes.{Text, Words, same, empty, first, rest, anyOf, part}
+use Rattle.text.specs.Bytes.{Text, Words, empty, first, rest, part}
 use Rattle.text.specs.Refusals.{refusedIf, refusedAs, firstRefusal, isNumber}
 use Rattle.text.specs.Marks.{marks}
 use Rattle.text.specs.Lines.{Line, linesOf, words, heading}
@@ -30,7 +29,7 @@ use Rattle.rules.specs.Words.{hasDollar, isGroupName}
 use Rattle.rules.specs.Entries.{Entry, ignored, wrong, group, set, rule, entryOf}
 use Rattle.rules.specs.Splitting.{wordsOf, IsWord, IsSplit}
 use Rattle.lookup.specs.Names.{namesAt, Named}
-use Rattle.rules.specs.Checking.{lineOf, noHeading, presentFault, lineFault, presentAfter, namesAfter, checkFrom, namesFrom, IsSetLine, IsKind, Adds, Ready, leftFaults, leftNames, Onward, Steps}
+use Rattle.rules.specs.Checking.{lineOf, noHeading, presentFault, lineFault, presentAfter, namesAfter, checkFrom, namesFrom, IsSetLine, IsKind, Adds, Ready, leftFaults, leftNames, Steps}
 use Rattle.rules.specs.Plain.{LineRead}
 use Rattle.rules.proofs.Numbers.{goodEntry, entry-good}
 

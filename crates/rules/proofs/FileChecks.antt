@@ -2,30 +2,28 @@
 use Prim.Native.Nat.{ℕ, _+_, _*_, _≤_, _<_}
 use native.Mathlib.Omega.{arith}
 use mathlib.Core.Path.{_≡_, refl, sym, ap, _∙_}
-use mathlib.Core.List.{List, [], _∷_, _++_}
-use mathlib.Core.Bool.{Bool, true, false, cond}
+use mathlib.Core.List.{List, [], _∷_}
+use mathlib.Core.Bool.{Bool, true, false}
 use lib.ListN.{length, getD, drop, set, drop-of-length-le}
 use lib.Dec.{ltb}
 use native.Mathlib.Numerals.{add-one}
 use borrow.Author.Tests.{lt-ltb, le-ltb, ltb-true, ltb-false}
 use Rattle.text.specs.declared.Refusal.{Refusal}
-use Rattle.text.specs.declared.Place.the-variants.{Start}
 use Rattle.text.specs.Limits.{longestFile}
 use Rattle.text.specs.Bytes.{Text, Words}
 use Rattle.text.specs.Refusals.{refusedIf, firstRefusal}
 use Rattle.text.specs.Marks.{marks}
-use Rattle.text.specs.Lines.{Line, linesOf, lines}
+use Rattle.text.specs.Lines.{Line, lines}
 use Rattle.text.specs.Reading.{follow}
 use Rattle.text.proofs.Positions.{lines-nil}
 use Rattle.text.proofs.Readers.{marks-nil}
 use Rattle.text.proofs.Pairs.{withPair, pair-length, pair-old, pair-new}
 use Rattle.rules.specs.declared.Progress.{Progress}
-use Rattle.rules.specs.declared.Checked.{Checked}
 use Rattle.rules.specs.Faults.{lineFaults, fileRefusals}
 use Rattle.rules.specs.Names.{definesOf}
 use Rattle.lookup.specs.Names.{namesAt}
 use Rattle.lookup.proofs.Adding.{named-none}
-use Rattle.rules.specs.Checking.{lineOf, noHeading, checkFrom, namesFrom, Ready, leftFaults, leftNames, Onward, Steps, toHeading, fromHeading, mostHeads, HeadAt, Heads, Lists, Checks}
+use Rattle.rules.specs.Checking.{lineOf, noHeading, checkFrom, namesFrom, Ready, leftFaults, leftNames, Steps, toHeading, fromHeading, mostHeads, HeadAt, Heads, Lists, Checks}
 use Rattle.rules.proofs.LineChecks.{lines-checked, defines-named}
 
 -- what has been read of the file is right, and the rest is as it was

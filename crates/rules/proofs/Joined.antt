@@ -12,9 +12,9 @@ use Rattle.text.proofs.Lists.{nil-left, nil-right}
 use Rattle.text.proofs.Joined.{shifted, physical, lines-join}
 use Rattle.rules.specs.Entries.{Entry, ignored, wrong, group, set, rule, entryOf}
 use Rattle.rules.specs.Sections.{Rule, Section, Sections, addEntry, sections}
-use Rattle.rules.specs.Faults.{Groups, withGroup, groupsAfter, orphans, headFaults, faults, lineFaults}
+use Rattle.rules.specs.Faults.{Groups, withGroup, groupsAfter, orphans, faults, lineFaults}
 use Rattle.rules.specs.Names.{groupsOf, definesOf, namesOf}
-use Rattle.rules.proofs.Shifted.{sections-cons, sections-nil, shiftRule, shiftSection, shiftRefusal, sections-shift, faults-shift}
+use Rattle.rules.proofs.Shifted.{sections-cons, sections-nil, shiftSection, sections-shift, faults-shift}
 use Rattle.rules.proofs.Fresh.{fresh, faults-beside, fresh-named}
 
 add-append : (n : ℕ) (e : Entry) (o : List Rule) (x y : List Section) →

@@ -1,6 +1,6 @@
 -- The faults of a file, met line by line: what a loop over the lines knows.
 use Prim.Native.Nat.{ℕ}
-use mathlib.Core.Path.{_≡_, refl, sym, ap, _∙_}
+use mathlib.Core.Path.{_≡_, refl, ap}
 use mathlib.Core.List.{List, [], _∷_, _++_, append-assoc}
 use mathlib.Core.Option.{Option, none, some}
 use mathlib.Core.Bool.{_||_}
@@ -13,7 +13,7 @@ use Rattle.text.specs.Refusals.{refusedIf, refusedAs}
 use Rattle.text.specs.Lines.{Line, lines}
 use Rattle.rules.specs.Headings.{Heading}
 use Rattle.rules.specs.Entries.{Entry, ignored, wrong, group, set, rule, entryOf}
-use Rattle.rules.specs.Sections.{Rule, bad, defines, applies, Section, addEntry, sections}
+use Rattle.rules.specs.Sections.{Rule, addEntry, sections}
 use Rattle.rules.specs.Faults.{Group, Groups, defined, withGroup, groupsAfter, ruleFault, orphans, headFaults, faults, lineFaults}
 use Rattle.rules.specs.Names.{groupsOf}
 use Rattle.rules.proofs.Shifted.{sections-cons, sections-nil}

@@ -3,12 +3,11 @@ use Prim.Native.Nat.{ℕ}
 use mathlib.Core.Path.{_≡_, refl, sym, ap, _∙_}
 use mathlib.Core.List.{List, [], _∷_, _++_, map}
 use mathlib.Core.Option.{Option, none, some}
-use mathlib.Core.Bool.{Bool, true, false, not, _||_, cond}
+use mathlib.Core.Bool.{Bool, true, false, not, cond}
 use lib.ListN.{length}
-use lib.Dec.{eqb, leb}
+use lib.Dec.{eqb}
 use borrow.Author.Tests.{eqb-true}
 use Rattle.text.specs.declared.Refusal.{Refusal}
-use Rattle.text.specs.Limits.{mostGroups}
 use Rattle.text.specs.Bytes.{Text, Words, same, anyOf}
 use Rattle.text.specs.Refusals.{refusedIf, refusedAs, isNumber}
 use Rattle.text.specs.Lines.{Line, lines}
@@ -17,8 +16,8 @@ use Rattle.rules.specs.declared.Present.{Present}
 use Rattle.rules.specs.declared.Index.{Index}
 use Rattle.rules.specs.Headings.{Heading, hasWord}
 use Rattle.rules.specs.Entries.{Entry, ignored, wrong, group, set, rule, entryOf}
-use Rattle.rules.specs.Faults.{Group, Groups, defined, shapeFault, ruleFault, lineFaults}
-use Rattle.rules.specs.Names.{groupsOf, definesOf}
+use Rattle.rules.specs.Faults.{Group, Groups, defined, ruleFault, lineFaults}
+use Rattle.rules.specs.Names.{definesOf}
 use Rattle.rules.specs.Checking.{noHeading, formOf, presentOf, presentFault, lineFault, presentAfter, namesAfter, checkFrom, namesFrom}
 use Rattle.rules.proofs.Numbers.{goodEntry, entry-good}
 use Rattle.rules.proofs.LineByLine.{ruleFaults, faultsFrom, nextFaults, faults-line, faults-none, faults-start, groupsFrom, nextGroups, groups-line, groups-none, groups-start}

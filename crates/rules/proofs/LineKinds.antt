@@ -1,9 +1,8 @@
 -- What a split line is: one law for each way.
-use Prim.Native.Nat.{ℕ, zero, suc, _+_, _-_, _≤_, _<_}
+use Prim.Native.Nat.{ℕ, _+_, _-_, _≤_, _<_}
 use native.Mathlib.Omega.{arith}
-use native.Mathlib.Numerals.{add-one}
 use mathlib.Core.Path.{_≡_, refl, sym, ap, _∙_}
-use mathlib.Core.List.{List, [], _∷_, map}
+use mathlib.Core.List.{[], _∷_, map}
 use mathlib.Core.Bool.{Bool, true, false, not, _&&_, cond}
 use lib.ListN.{length, getD, drop}
 use lib.Dec.{eqb}
@@ -20,7 +19,7 @@ use Rattle.rules.specs.Headings.{leftItem, componentOf, goodItems, headi
 use Rattle.rules.specs.Entries.{Entry, ignored, wrong, group, set, rule, before, after, setShape, setEntry, groupEntry, headingEntry, ruleEntry, entryOf}
 use Rattle.rules.specs.Splitting.{Tallied}
 use Rattle.rules.specs.declared.SetHeading.{SetHeading}
-use Rattle.rules.specs.Sets.{Holds, IsSet}
+use Rattle.rules.specs.Sets.{IsSet}
 use Rattle.rules.specs.Checking.{lineOf, formOf, presentOf, IsSetLine, IsKind}
 
 -- another way to write the same line

@@ -1,16 +1,16 @@
 -- Each refusal of a file has a number of document 01.
 use Prim.Native.Nat.{ℕ, _+_}
 use mathlib.Core.Path.{_≡_, refl}
-use mathlib.Core.List.{List, [], _∷_, _++_, map}
+use mathlib.Core.List.{List, [], _∷_, map}
 use mathlib.Core.Bool.{Bool, true, false, _||_, _&&_, cond}
 use lib.ListN.{length, drop}
 use lib.Dec.{eqb, ltb, leb}
 use Rattle.text.specs.Limits.{longestFile, mostGroups}
-use Rattle.text.specs.Bytes.{Text, Words, bytes, same, allOf, anyOf, concatMap}
+use Rattle.text.specs.Bytes.{Text, Words, bytes, same, allOf, anyOf}
 use Rattle.text.specs.Refusals.{refusedIf, refusedAs, isNumber, hasNumber}
 use Rattle.text.specs.Lines.{Line, lines}
 use Rattle.text.specs.Words.{wordsFault}
-use Rattle.text.proofs.Lists.{and-both, both-and, all-append, all-concat}
+use Rattle.text.proofs.Lists.{and-both, all-append, all-concat}
 use Rattle.text.proofs.Numbers.{if-number, as-number, words-number}
 use Rattle.rules.specs.Words.{isEquals, hasDollar, ordinary, isGroupName}
 use Rattle.rules.specs.Percent.{malformed}

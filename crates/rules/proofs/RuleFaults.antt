@@ -1,15 +1,14 @@
 -- The refusal of a rule under the present heading: one law for each way.
 use Prim.Native.Nat.{ℕ, _+_}
-use mathlib.Core.Path.{_≡_, refl, sym, _∙_}
+use mathlib.Core.Path.{_≡_, sym, _∙_}
 use mathlib.Core.List.{[]}
-use mathlib.Core.Bool.{Bool, true, false, cond}
+use mathlib.Core.Bool.{true, false}
 use lib.ListN.{length, getD, take, drop}
 use lib.Dec.{eqb}
 use borrow.Author.Tests.{eq-eqb, ne-eqb}
-use Rattle.text.specs.Bytes.{Text, Words, allOf, anyOf}
+use Rattle.text.specs.Bytes.{Words, allOf}
 use Rattle.rules.specs.declared.Present.{Present}
-use Rattle.rules.specs.Words.{isEquals, ordinary, leftWord}
-use Rattle.rules.specs.Percent.{malformed}
+use Rattle.rules.specs.Words.{isEquals, leftWord}
 use Rattle.rules.specs.Faults.{ruleShape, shapeFault}
 use Rattle.rules.specs.Checking.{rightFault, presentFault}
 

@@ -1,14 +1,14 @@
 -- Lines whose numbers are shifted: their sections and faults are the same, shifted.
 use Prim.Native.Nat.{ℕ, _+_}
 use mathlib.Core.Path.{_≡_, refl, ap}
-use mathlib.Core.List.{List, [], _∷_, _++_, map}
-use mathlib.Core.Bool.{Bool, true, false, not, cond}
+use mathlib.Core.List.{List, [], _∷_, map}
+use mathlib.Core.Bool.{Bool, true, false, not}
 use lib.Dec.{eqb}
 use Rattle.text.specs.declared.Refusal.{Refusal}
 use Rattle.text.specs.Bytes.{concatMap}
 use Rattle.text.specs.Refusals.{refusedIf, refusedAs}
 use Rattle.text.specs.Lines.{Line}
-use Rattle.text.proofs.Lists.{map-append, map-concat}
+use Rattle.text.proofs.Lists.{map-append}
 use Rattle.text.proofs.Joined.{shifted}
 use Rattle.rules.specs.Headings.{Heading}
 use Rattle.rules.specs.Entries.{Entry, ignored, wrong, group, set, rule, entryOf}

@@ -1,24 +1,23 @@
 -- The words of a line, counted and placed one by one.
-use Prim.Native.Nat.{ℕ, zero, suc, min, _+_, _*_, _-_, _≤_, _<_}
+use Prim.Native.Nat.{ℕ, zero, suc, _+_, _*_, _-_, _≤_, _<_}
 use native.Mathlib.Omega.{arith}
 use native.Mathlib.Nat.{add-zero, zero-add}
-use native.Mathlib.Numerals.{add-one}
 use mathlib.Core.Path.{_≡_, refl, sym, ap, _∙_}
-use mathlib.Core.List.{List, [], _∷_, _++_}
+use mathlib.Core.List.{[], _∷_}
 use mathlib.Core.Bool.{Bool, true, false, _||_, _&&_, cond, and-assoc, or-assoc}
 use lib.ListN.{length, getD, drop}
 use lib.Dec.{ltb}
-use borrow.Author.Tests.{lt-ltb, le-ltb, ltb-true, ltb-false}
+use borrow.Author.Tests.{ltb-true, ltb-false}
 use Rattle.text.specs.Bytes.{Text, Words, anyOf, allOf, part}
 use Rattle.text.specs.Words.{wordsFault}
-use Rattle.text.specs.Reading.{left, ahead, follow, lower, FoundWord, NoWord}
+use Rattle.text.specs.Reading.{left, ahead, lower, FoundWord, NoWord}
 use Rattle.text.proofs.Pairs.{withPair, pair-length, pair-old, pair-new}
 use Rattle.text.proofs.Readers.{lower-zero, lower-none, lower-assoc, fault-cons, fault-nil}
 use Rattle.rules.specs.declared.Tally.{Tally}
 use Rattle.rules.specs.declared.Split.{Split}
 use Rattle.rules.specs.Words.{isEquals, ordinary}
 use Rattle.rules.specs.Entries.{before, after}
-use Rattle.rules.specs.Splitting.{wordsOf, mostPlaced, tallied, counted, Tallied, stored, IsWord, Placed, IsSplit}
+use Rattle.rules.specs.Splitting.{wordsOf, tallied, counted, Tallied, stored, IsWord, Placed, IsSplit}
 
 -- the tally of words, from the first on
 

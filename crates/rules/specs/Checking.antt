@@ -2,7 +2,7 @@
 use Prim.Native.Nat.{ℕ, zero, suc, _+_, _*_, _≤_, _<_}
 use mathlib.Core.Path.{_≡_}
 use mathlib.Core.List.{List, [], _∷_, _++_}
-use mathlib.Core.Bool.{Bool, true, false, _||_, _&&_, cond}
+use mathlib.Core.Bool.{Bool, true, _||_, _&&_, cond}
 use lib.ListN.{length, getD, drop, set}
 use lib.Dec.{eqb, ltb, leb}
 use Rattle.text.specs.declared.Refusal.{Refusal}

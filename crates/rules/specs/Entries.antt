@@ -1,6 +1,6 @@
 -- What a line is by itself. Document 01, "Lines and words", and refusals 4 to 7 and 9.
 use Prim.Native.Nat.{ℕ}
-use mathlib.Core.List.{List, [], _∷_, map}
+use mathlib.Core.List.{[], _∷_, map}
 use mathlib.Core.Bool.{Bool, not, _&&_, cond}
 use lib.Dec.{eqb}
 use Rattle.text.specs.Bytes.{Text, Words, bytes, same, empty, rest, allOf, anyOf}

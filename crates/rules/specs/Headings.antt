@@ -5,7 +5,7 @@ use mathlib.Core.Bool.{Bool, true, false, not, _&&_, cond}
 use lib.ListN.{take, drop}
 use lib.Dec.{eqb, ltb}
 use Rattle.text.specs.Limits.{mostLayouts}
-use Rattle.text.specs.Bytes.{Text, Words, bytes, same, allOf, concatMap}
+use Rattle.text.specs.Bytes.{Text, bytes, same, allOf, concatMap}
 use Rattle.rules.specs.declared.Column.{Column}
 use Rattle.rules.specs.declared.Column.the-variants as column
 use Rattle.rules.specs.declared.Index.{Index}

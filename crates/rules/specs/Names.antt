@@ -4,7 +4,7 @@ use mathlib.Core.Bool.{cond}
 use Rattle.text.specs.Bytes.{Text, Words, rest, concatMap}
 use Rattle.text.specs.Lines.{lines}
 use Rattle.rules.specs.Words.{isGroupName}
-use Rattle.rules.specs.Sections.{Rule, Head, bad, defines, applies, Section, sections}
+use Rattle.rules.specs.Sections.{Rule, Head, bad, defines, applies, sections}
 use Rattle.rules.specs.Faults.{Group, Groups, groupsAfter, leftWords}
 
 -- "a file defines a group by a group line"

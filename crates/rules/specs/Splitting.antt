@@ -1,10 +1,10 @@
 -- A line split into words once: what is kept of them, and where the first ten stand.
 use Prim.Native.Nat.{ℕ, min, _+_, _*_, _≤_, _<_}
 use mathlib.Core.Path.{_≡_}
-use mathlib.Core.List.{List, [], _∷_}
+use mathlib.Core.List.{[]}
 use mathlib.Core.Bool.{Bool, true, false, _||_, _&&_, cond}
 use lib.ListN.{length, getD, drop, set}
-use lib.Dec.{ltb, leb}
+use lib.Dec.{ltb}
 use Rattle.text.specs.Bytes.{Text, Words, anyOf, allOf, part}
 use Rattle.text.specs.Words.{wordsFault}
 use Rattle.text.specs.Reading.{left, ahead, follow}

@@ -1,5 +1,4 @@
 -- Kinds of words. Document 01, "Lines and words".
-use Prim.Native.Nat.{ℕ}
 use mathlib.Core.List.{[], _∷_}
 use mathlib.Core.Bool.{Bool, not, _||_, _&&_}
 use lib.Dec.{eqb}

@@ -1,26 +1,16 @@
 -- What the kinds of bytes mean for the marks.
-use Prim.Native.Nat.{ℕ, zero, suc, min, _+_, _-_, _≤_, _<_}
-use native.Mathlib.Nat.{add-zero}
+use Prim.Native.Nat.{ℕ, zero, _-_, _≤_}
 use native.Mathlib.Omega.{arith}
-use mathlib.Core.Path.{_≡_, refl, sym, ap, _∙_}
-use mathlib.Core.List.{List, [], _∷_, _++_}
+use mathlib.Core.Path.{_≡_, refl, sym, _∙_}
 use mathlib.Core.Bool.{Bool, true, false, not, _||_, cond}
-use borrow.Author.Tests.{ne-eqb, eq-eqb, eqb-true, eqb-false, ltb-true, ltb-false, lt-ltb, le-ltb}
+use borrow.Author.Tests.{ne-eqb, eqb-true, eqb-false, ltb-false}
 use lib.Dec.{eqb, ltb}
-use lib.ListN.{length, getD, drop, drop-of-length-le}
-use Rattle.text.specs.declared.Class.{Class}
 use Rattle.text.specs.declared.Class.the-variants.{Blank, Join, Slashes, Bang, Other}
-use Rattle.text.specs.declared.Place.{Place}
-use Rattle.text.specs.declared.Place.the-variants.{Start, Space, Word, Comment, JoinStart, JoinSpace}
-use Rattle.text.specs.declared.Next.{Next}
-use Rattle.text.specs.declared.Next.the-variants.{Found, Stop}
-use Rattle.text.specs.declared.Fast.{Fast}
+use Rattle.text.specs.declared.Place.the-variants.{Space, Word}
 use Rattle.text.specs.declared.Fast.the-variants as fast
-use Rattle.text.specs.Bytes.{Text, Words, first, part, anyOf}
-use Rattle.text.specs.Marks.{classOf, Mark, char, gap, join, bang, end, atFeed, atOther, step, marks}
-use Rattle.text.specs.Lines.{run, words, heading, Line, feeds, inside, linesOf, lines}
-use Rattle.text.specs.Words.{badByte, tooLong, wordsFault}
-use Rattle.text.specs.Reading.{left, wordly, inWord, ahead, follow, faultOf, lower, kindOf, Table, Fenced, Within, WordEnd, InWord, PlainEnd, OddWord, CommentEnd, Blanks, Skipped, FoundWord, NoWord, Between, FastWord, NextWord, Opens}
+use Rattle.text.specs.Marks.{classOf, char, join, bang, atOther}
+use Rattle.text.specs.Words.{badByte}
+use Rattle.text.specs.Reading.{wordly, inWord, kindOf}
 use Rattle.text.proofs.Lists.{no}
 
 pub record Plain (b : ℕ) : Type 0 where

@@ -4,7 +4,7 @@ use native.Mathlib.Nat.{sub-self, add-zero}
 use native.Mathlib.Omega.{arith}
 use mathlib.Core.Path.{_≡_, refl, sym, ap, _∙_}
 use mathlib.Core.List.{List, [], _∷_, _++_, append-nil, append-assoc}
-use mathlib.Core.Bool.{Bool, true, false, _||_, _&&_, cond}
+use mathlib.Core.Bool.{Bool, true, false, _||_, cond}
 use mathlib.Core.Logic.{_⊎_, inl, inr, ⊎-elim}
 use borrow.Author.Tests.{ne-eqb}
 use lib.Dec.{eqb}
@@ -13,16 +13,13 @@ use lib.Seq.{drop-drop, take-suc, getD-drop}
 use Rattle.text.specs.declared.Class.{Class}
 use Rattle.text.specs.declared.Class.the-variants.{Blank, Join, Slashes, Bang, Other}
 use Rattle.text.specs.declared.Place.{Place}
-use Rattle.text.specs.declared.Place.the-variants.{Start, Space, Word, Comment, JoinStart, JoinSpace}
-use Rattle.text.specs.declared.Next.{Next}
-use Rattle.text.specs.declared.Next.the-variants.{Found, Stop}
-use Rattle.text.specs.declared.Fast.{Fast}
+use Rattle.text.specs.declared.Place.the-variants.{Space, Word, Comment}
 use Rattle.text.specs.declared.Fast.the-variants as fast
-use Rattle.text.specs.Bytes.{Text, Words, first, part, anyOf}
+use Rattle.text.specs.Bytes.{first, part, anyOf}
 use Rattle.text.specs.Marks.{classOf, Mark, char, gap, join, bang, end, atFeed, atOther, step, marks}
-use Rattle.text.specs.Lines.{run, words, heading, Line, feeds, inside, linesOf, lines}
-use Rattle.text.specs.Words.{badByte, tooLong, wordsFault}
-use Rattle.text.specs.Reading.{left, wordly, inWord, ahead, follow, faultOf, lower, kindOf, Table, Fenced, Within, WordEnd, InWord, PlainEnd, OddWord, CommentEnd, Blanks, Skipped, FoundWord, NoWord, Between, FastWord, NextWord, Opens}
+use Rattle.text.specs.Lines.{run, words, feeds, inside, linesOf, lines}
+use Rattle.text.specs.Words.{badByte}
+use Rattle.text.specs.Reading.{left, wordly, inWord, ahead, WordEnd, InWord}
 use Rattle.text.proofs.Lists.{no}
 use Rattle.text.proofs.Comparing.{drop-at}
 

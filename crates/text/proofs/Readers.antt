@@ -1,14 +1,12 @@
 -- The readers of lines and words: one law for each way through each loop.
 use Prim.Native.Nat.{ℕ, zero, suc, min, _+_, _-_, _≤_, _<_}
-use native.Mathlib.Nat.{add-zero}
 use native.Mathlib.Omega.{arith}
 use mathlib.Core.Path.{_≡_, refl, sym, ap, _∙_}
 use mathlib.Core.List.{List, [], _∷_, _++_}
 use mathlib.Core.Bool.{Bool, true, false, not, _||_, _&&_, cond}
-use borrow.Author.Tests.{ne-eqb, eq-eqb, eqb-true, eqb-false, ltb-true, ltb-false, lt-ltb, le-ltb, le-leb}
+use borrow.Author.Tests.{eq-eqb, eqb-true, eqb-false, ltb-true, ltb-false, lt-ltb, le-ltb, le-leb}
 use lib.Dec.{eqb, ltb, leb}
 use lib.ListN.{length, getD, drop, drop-of-length-le}
-use Rattle.text.specs.declared.Class.{Class}
 use Rattle.text.specs.declared.Class.the-variants.{Blank, Join, Slashes, Bang, Other}
 use Rattle.text.specs.declared.Place.{Place}
 use Rattle.text.specs.declared.Place.the-variants.{Start, Space, Word, Comment, JoinStart, JoinSpace}
@@ -18,11 +16,11 @@ use Rattle.text.specs.declared.Fast.{Fast}
 use Rattle.text.specs.declared.Fast.the-variants as fast
 use Rattle.text.specs.declared.Plain.{Plain as PlainRead}
 use Rattle.text.specs.declared.Plain.the-variants as plain
-use Rattle.text.specs.Bytes.{Text, Words, first, part, allOf, anyOf}
+use Rattle.text.specs.Bytes.{Words, first, part, allOf, anyOf}
 use Rattle.text.specs.Marks.{classOf, Mark, char, gap, join, bang, end, atFeed, atOther, step, marks}
-use Rattle.text.specs.Lines.{run, words, heading, Line, feeds, inside, linesOf, lines}
+use Rattle.text.specs.Lines.{run, words, heading, Line, inside, linesOf, lines}
 use Rattle.text.specs.Words.{badByte, tooLong, wordsFault}
-use Rattle.text.specs.Reading.{left, wordly, inWord, ahead, follow, faultOf, lower, levelOf, kindOf, Table, Fenced, Within, WordEnd, InWord, PlainEnd, RunEnd, OddWord, CommentEnd, Blanks, Skipped, FoundWord, NoWord, Between, FastWord, PlainFound, PlainWord, ValueWord, ByteWord, NextWord, Opens}
+use Rattle.text.specs.Reading.{left, inWord, ahead, follow, faultOf, lower, levelOf, kindOf, Fenced, WordEnd, InWord, PlainEnd, RunEnd, OddWord, CommentEnd, Blanks, Skipped, FoundWord, NoWord, Between, FastWord, PlainFound, PlainWord, ValueWord, ByteWord, NextWord, Opens}
 use Rattle.text.proofs.Lists.{no, and-both}
 use Rattle.text.proofs.Positions.{first-drop, part-empty, part-cons, part-snoc, in-word-start, in-word-more, in-word-over, marks-at, step-other, step-feed, comment-words, first-in, any-cons, any-nil, length-part, lines-char, lines-gap, lines-bang, lines-join, lines-end, lines-nil}
 use Rattle.text.proofs.ByteKinds.{pick, Plain, not-bad, plain-in-word, kind-one, kind-stop, Begins, begins-char, kind-zero, join-class, note-class, bang-class, differ}

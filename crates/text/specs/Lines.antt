@@ -2,8 +2,7 @@
 use Prim.Native.Nat.{ℕ, _+_}
 use mathlib.Core.List.{List, [], _∷_}
 use mathlib.Core.Bool.{Bool, true, false, not}
-use lib.ListN.{drop}
-use Rattle.text.specs.declared.Place.the-variants.{Start, Space}
+use Rattle.text.specs.declared.Place.the-variants.{Start}
 use Rattle.text.specs.Bytes.{Text, Words}
 use Rattle.text.specs.Marks.{Mark, char, gap, join, bang, end, marks}
 

@@ -14,7 +14,7 @@ use Rattle.text.specs.declared.Fast.the-variants as fast
 use Rattle.text.specs.declared.Plain.{Plain}
 use Rattle.text.specs.declared.Plain.the-variants as plain
 use Rattle.text.specs.declared.Place.the-variants.{Start, Space, Word, Comment}
-use Rattle.text.specs.Bytes.{Text, Words, allOf, anyOf, part}
+use Rattle.text.specs.Bytes.{Words, allOf, anyOf, part}
 use Rattle.text.specs.Marks.{classOf, marks}
 use Rattle.text.specs.Lines.{run, words, heading, Line, linesOf}
 use Rattle.text.specs.Words.{badByte, tooLong}

@@ -1,6 +1,5 @@
 -- The copies of a piece that ends with `:all`, and a value written piece by piece.
 use Prim.Native.Nat.{ℕ, zero, suc, _+_, _-_, _≤_, _<_}
-use native.Mathlib.Nat.{sub-zero}
 use native.Mathlib.Omega.{arith}
 use mathlib.Core.Path.{_≡_, refl, sym, ap, _∙_}
 use mathlib.Core.List.{[], _∷_, _++_, append-nil}
@@ -15,7 +14,7 @@ use Rattle.output.specs.Store.{farthest, past, Wrote}
 use Rattle.output.proofs.Stores.{stored-behind, wrote-none, wrote-then}
 use Rattle.rules.specs.Headings.{decimal}
 use Rattle.rules.proofs.Pieces.{tail-whole}
-use Rattle.values.specs.Spread.{isSign, signed, cuts, endsAll, stem, copy, copies, spread}
+use Rattle.values.specs.Spread.{isSign, signed, cuts, endsAll, copy, copies, spread}
 use Rattle.values.specs.declared.Cut.{Cut}
 use Rattle.values.specs.Cutting.{NextCut}
 use Rattle.values.proofs.Writes.{Writing, writing-start, writing-more, writing-end}

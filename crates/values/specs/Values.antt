@@ -1,7 +1,7 @@
 -- A right-hand value with the profile's values put in. Document 01, "Right-hand values", its second paragraph.
 use Prim.Native.Nat.{ℕ, zero, _-_}
 use mathlib.Core.List.{List, [], _∷_, _++_}
-use mathlib.Core.Bool.{Bool, _&&_, cond}
+use mathlib.Core.Bool.{_&&_, cond}
 use lib.ListN.{getD}
 use lib.Dec.{eqb, ltb, leb}
 use Rattle.text.specs.Bytes.{Text, empty, concatMap}

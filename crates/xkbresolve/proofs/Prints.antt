@@ -15,7 +15,7 @@ use Rattle.output.proofs.Stores.{take-stored, wrote-then}
 use Rattle.values.proofs.Writes.{wrote-long}
 use Rattle.answers.specs.Answer.{sum, total, refused, accepted, lengthsOf, bufferAfter, stretch}
 use Rattle.answers.proofs.Stretch.{stretch-texts}
-use Rattle.xkbresolve.specs.Program.{digits, inDecimal, refusalLine, names, componentLine, componentLines, stretchLines, printed}
+use Rattle.xkbresolve.specs.Program.{digits, inDecimal, refusalLine, names, componentLine, componentLines, stretchLines}
 
 -- a number in decimal
 

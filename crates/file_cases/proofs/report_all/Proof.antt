@@ -1,6 +1,5 @@
 use borrow.Author.Needs.{needs}
 use Prim.Native.Nat.{_-_, _≤_}
-use native.Mathlib.Omega.{arith}
 use lib.ListN.{length}
 use Rattle.file_cases.proofs.report_all.Statement.{statement}
 use Rattle.file_cases.proofs.report_all.Tie as tie

@@ -1,5 +1,4 @@
 use Rattle.output.proofs.Stores.{wrote-part}
-use mathlib.Core.Path.{_≡_, refl, sym, _∙_}
 use borrow.Author.Needs.{needs}
 use Rattle.output.proofs.put_part.Statement.{statement}
 use Rattle.output.proofs.put_part.Tie as tie

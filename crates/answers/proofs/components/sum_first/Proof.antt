@@ -1,9 +1,9 @@
 use borrow.Author.Needs.{needs}
 use Rattle.answers.proofs.components.sum_first.Statement.{statement}
 use Rattle.answers.proofs.components.sum_first.Tie as tie
-use Prim.Native.Nat.{_+_, _*_, _-_, _≤_}
+use Prim.Native.Nat.{_*_, _-_, _≤_}
 use native.Mathlib.Omega.{arith}
-use mathlib.Core.Path.{_≡_, refl, ap, _∙_}
+use mathlib.Core.Path.{_≡_}
 use lib.ListN.{take}
 use Rattle.answers.specs.Answer.{sum}
 use Rattle.answers.proofs.Stretch.{sum-none, sum-next, sum-all, sum-beyond}

@@ -1,13 +1,11 @@
 use borrow.Author.Needs.{needs}
 use Prim.Native.Nat.{_-_}
 use native.Mathlib.Omega.{arith}
-use mathlib.Core.Path.{_≡_, refl, sym, ap, _∙_}
+use mathlib.Core.Path.{_≡_, refl, ap, _∙_}
 use mathlib.Core.List.{[]}
 use lib.ListN.{length}
 use Rattle.profile.specs.Profile.{textsOf, profileOf}
 use Rattle.rules.specs.Splitting.{wordsOf}
-use Rattle.values.specs.Spread.{expanded}
-use Rattle.firing.specs.Writing.{FiredOne}
 use Rattle.firing.proofs.ValueFires.{RuleGoing, rule-start, rule-more, rule-end, word-room}
 use Rattle.firing.proofs.rule.fire_rule.Statement.{statement}
 use Rattle.firing.proofs.rule.fire_rule.Tie as tie

@@ -1,5 +1,4 @@
 use borrow.Author.Needs.{needs}
-use native.Mathlib.Omega.{arith}
 use Rattle.firing.proofs.ValueFires.{value-fired}
 use borrow.Author.Needs.{needs}
 use Rattle.firing.proofs.rule.fire_value.Statement.{statement}

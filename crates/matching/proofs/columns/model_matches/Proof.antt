@@ -1,5 +1,5 @@
 use borrow.Author.Needs.{needs}
-use mathlib.Core.Path.{_≡_, sym, ap, _∙_}
+use mathlib.Core.Path.{sym, _∙_}
 use Rattle.matching.proofs.Matches.{star-yes, star-no}
 use borrow.Author.Needs.{needs}
 use Rattle.matching.proofs.columns.model_matches.Statement.{statement}

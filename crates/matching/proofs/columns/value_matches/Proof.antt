@@ -1,5 +1,5 @@
 use borrow.Author.Needs.{needs}
-use mathlib.Core.Path.{_≡_, sym, ap, _∙_, refl}
+use mathlib.Core.Path.{sym, _∙_, refl}
 use Rattle.matching.proofs.Matches.{value-star, value-word}
 use borrow.Author.Needs.{needs}
 use Rattle.matching.proofs.columns.value_matches.Statement.{statement}

@@ -1,6 +1,5 @@
 use borrow.Author.Needs.{needs}
-use native.Mathlib.Omega.{arith}
-use mathlib.Core.Path.{_≡_, sym, ap, _∙_}
+use mathlib.Core.Path.{sym, _∙_}
 use Rattle.matching.proofs.Matches.{dollar-long, word-group, word-plain}
 use borrow.Author.Needs.{needs}
 use Rattle.matching.proofs.columns.word_matches.Statement.{statement}

@@ -1,6 +1,5 @@
 use borrow.Author.Needs.{needs}
 use Prim.Native.Nat.{_-_}
-use native.Mathlib.Omega.{arith}
 use Rattle.matching.proofs.Filling.{Clearing, clearing-start, clearing-more, clearing-end}
 use Rattle.matching.proofs.groups.clear_row.Statement.{statement}
 use Rattle.matching.proofs.groups.clear_row.Tie as tie

@@ -1,7 +1,6 @@
 use borrow.Author.Needs.{needs}
 use Rattle.matching.proofs.groups.fill_row.Statement.{statement}
 use Rattle.matching.proofs.groups.fill_row.Tie as tie
-use native.Mathlib.Omega.{arith}
 use Rattle.text.proofs.Readers.{found, stopped}
 use Rattle.text.proofs.Passing.{passing-start, passing-word, passing-stop, passing-then}
 use Rattle.profile.specs.Profile.{textsOf}

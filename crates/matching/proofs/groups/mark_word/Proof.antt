@@ -1,7 +1,7 @@
 use Rattle.matching.proofs.groups.mark_word.Statement.{statement}
 use Rattle.matching.proofs.groups.mark_word.Tie as tie
 use native.Mathlib.Omega.{arith}
-use mathlib.Core.Path.{_≡_, refl, sym, _∙_}
+use mathlib.Core.Path.{sym, _∙_}
 use mathlib.Core.List.{[], _∷_}
 use lib.ListN.{length-set}
 use Rattle.profile.specs.Profile.{profileOf}

@@ -1,6 +1,6 @@
 use Rattle.resolver.proofs.resolving.no_room.Statement.{statement}
 use Rattle.resolver.proofs.resolving.no_room.Tie as tie
-use mathlib.Core.Path.{refl, sym}
+use mathlib.Core.Path.{refl}
 use borrow.Author.Tests.{lt-ltb, le-ltb}
 use Rattle.answers.specs.Answer.{noRoom}
 

@@ -2,7 +2,6 @@ use borrow.Author.Needs.{needs}
 use Rattle.resolver.proofs.running.fire_line.Statement.{statement}
 use Rattle.resolver.proofs.running.fire_line.Tie as tie
 use native.Mathlib.Omega.{arith}
-use mathlib.Core.Path.{_≡_, refl, sym, ap, _∙_}
 use Rattle.rules.proofs.Pieces.{tail-whole}
 use Rattle.rules.proofs.CheckSteps.{fence-tail}
 use Rattle.resolver.proofs.RuleLines.{rule-count, rule-short, line-fired, split-passed}

@@ -1,7 +1,6 @@
 use borrow.Author.Needs.{needs}
-use Prim.Native.Nat.{_+_, _-_}
+use Prim.Native.Nat.{_-_}
 use native.Mathlib.Omega.{arith}
-use mathlib.Core.Path.{_≡_, refl, sym, ap, _∙_}
 use Rattle.resolver.proofs.HeadingRuns.{heading-none, heading-run, range-low, range-first}
 use borrow.Author.Needs.{needs}
 use Rattle.resolver.proofs.running.run_heading.Statement.{statement}

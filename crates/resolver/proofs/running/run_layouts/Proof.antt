@@ -1,7 +1,7 @@
 use borrow.Author.Needs.{needs}
-use Prim.Native.Nat.{_+_, _-_}
+use Prim.Native.Nat.{_-_}
 use native.Mathlib.Omega.{arith}
-use mathlib.Core.Path.{_≡_, refl, sym, ap, _∙_}
+use mathlib.Core.Path.{_≡_, refl, _∙_}
 use lib.ListN.{length}
 use Rattle.text.specs.Reading.{follow}
 use Rattle.profile.specs.Profile.{textsOf, profileOf}

@@ -2,7 +2,6 @@ use Rattle.resolver.proofs.walking.next_heading.Statement.{statement}
 use Rattle.resolver.proofs.walking.next_heading.Tie as tie
 use Prim.Native.Nat.{_-_}
 use native.Mathlib.Omega.{arith}
-use mathlib.Core.Path.{_≡_}
 use lib.ListN.{length}
 use Rattle.resolver.proofs.RuleLines.{Seeking, seek-start, seek-more, seek-found, seek-none, line-on}
 

@@ -2,7 +2,7 @@ use borrow.Author.Needs.{needs}
 use Rattle.resolver.proofs.walking.walk.Statement.{statement}
 use Rattle.resolver.proofs.walking.walk.Tie as tie
 use native.Mathlib.Omega.{arith}
-use mathlib.Core.Path.{_≡_, refl, sym, ap, _∙_}
+use mathlib.Core.Path.{_≡_, refl, _∙_}
 use lib.ListN.{length}
 use borrow.Author.Tests.{not-true, not-false}
 use Rattle.profile.specs.Profile.{textsOf, profileOf}

@@ -1,6 +1,5 @@
 use borrow.Author.Needs.{needs}
 use native.Mathlib.Omega.{arith}
-use mathlib.Core.Path.{sym, _∙_}
 use Rattle.rules.proofs.Pieces.{tail-whole}
 use Rattle.rules.proofs.CheckSteps.{fence-tail, step-ignored, step-wrong, step-set, step-rule, step-group, group-low, group-high}
 use borrow.Author.Needs.{needs}

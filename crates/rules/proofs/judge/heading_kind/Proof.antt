@@ -1,6 +1,6 @@
 use borrow.Author.Needs.{needs}
 use native.Mathlib.Omega.{arith}
-use mathlib.Core.Path.{_≡_, sym, ap, _∙_}
+use mathlib.Core.Path.{sym, ap, _∙_}
 use Rattle.text.specs.Bytes.{bytes, same}
 use Rattle.rules.specs.Words.{hasDollar}
 use Rattle.rules.specs.Splitting.{wordsOf}

@@ -1,5 +1,4 @@
-use native.Mathlib.Omega.{arith}
-use mathlib.Core.Path.{_≡_, sym, ap, _∙_}
+use mathlib.Core.Path.{sym, _∙_}
 use Rattle.rules.specs.Splitting.{wordsOf}
 use Rattle.rules.specs.Checking.{IsKind}
 use Rattle.rules.proofs.LineKinds.{is-wrong, kind-of, line-wrong, line-heading, line-ignored, line-rule}

@@ -1,5 +1,4 @@
 use borrow.Author.Needs.{needs}
-use mathlib.Core.Path.{sym}
 use Rattle.rules.proofs.Splits.{add-by}
 use borrow.Author.Needs.{needs}
 use Rattle.rules.proofs.lines.add_word.Statement.{statement}

@@ -3,7 +3,6 @@ use Prim.Native.Nat.{_-_}
 use native.Mathlib.Omega.{arith}
 use lib.ListN.{length}
 use Rattle.text.specs.Bytes.{part}
-use Rattle.text.specs.Reading.{Table, Fenced}
 use Rattle.text.proofs.Readers.{found, stopped}
 use Rattle.rules.proofs.Splits.{Splitting, splitting-start, splitting-more, splitting-end}
 use Rattle.rules.proofs.lines.split_line.Statement.{statement}

@@ -1,7 +1,6 @@
 use borrow.Author.Needs.{needs}
 use Rattle.rules.proofs.plain.right_end.Statement.{statement}
 use Rattle.rules.proofs.plain.right_end.Tie as tie
-use native.Mathlib.Omega.{arith}
 use mathlib.Core.Path.{refl}
 use Rattle.rules.proofs.PlainLines.{Rights, rights-start, rights-more, rights-end}
 

@@ -1,5 +1,4 @@
 use borrow.Author.Needs.{needs}
-use native.Mathlib.Omega.{arith}
 use Rattle.text.specs.Bytes.{part}
 use borrow.Author.Needs.{needs}
 use Rattle.rules.proofs.sets.word.Statement.{statement}

@@ -2,7 +2,6 @@ use borrow.Author.Needs.{needs}
 use Rattle.text.proofs.compare.same_from.Statement.{statement}
 use Rattle.text.proofs.compare.same_from.Tie as tie
 use Prim.Native.Nat.{_-_}
-use native.Mathlib.Omega.{arith}
 use lib.ListN.{length}
 use Rattle.text.proofs.Comparing.{Alike, alike-start, alike-end, alike-differ, alike-more}
 

@@ -1,7 +1,5 @@
 use Prim.Native.Nat.{_-_}
 use native.Mathlib.Omega.{arith}
-use borrow.Author.Needs.{needs}
-use lib.ListN.{length}
 use mathlib.Core.Path.{refl, sym, _∙_}
 use Rattle.text.proofs.Positions.{NoneBad, none-bad-hit, none-bad-more, none-bad-end}
 use Rattle.text.proofs.reader.any_bad.Statement.{statement}

@@ -1,7 +1,6 @@
 use borrow.Author.Needs.{needs}
 use Rattle.text.proofs.reader.byte_word.Statement.{statement}
 use Rattle.text.proofs.reader.byte_word.Tie as tie
-use native.Mathlib.Omega.{arith}
 use mathlib.Core.Path.{refl, _∙_}
 use Rattle.text.proofs.Readers.{at-most, byte-next, byte-found}
 

@@ -1,7 +1,7 @@
 use borrow.Author.Needs.{needs}
 use Rattle.text.proofs.reader.is_pair.Statement.{statement}
 use Rattle.text.proofs.reader.is_pair.Tie as tie
-use mathlib.Core.Path.{_≡_, refl, sym, _∙_}
+use mathlib.Core.Path.{refl}
 use borrow.Author.Tests.{ne-eqb, eq-eqb}
 
 shared-slice-read-if1 : tie.Need-shared-slice-read-if1

@@ -3,7 +3,6 @@ use Rattle.text.proofs.reader.next_slow.Statement.{statement}
 use Rattle.text.proofs.reader.next_slow.Tie as tie
 use Prim.Native.Nat.{_-_}
 use native.Mathlib.Omega.{arith}
-use mathlib.Core.Path.{_≡_, refl, sym, _∙_}
 use lib.ListN.{length}
 use borrow.Author.Tests.{not-true, not-false}
 use Rattle.text.proofs.Readers.{At, between-skip, between-feed, between-joined, between-note, between-word, between-end, pair-yes, pair-no, pair-joins}

@@ -1,7 +1,6 @@
 use Prim.Native.Nat.{_-_}
 use native.Mathlib.Omega.{arith}
 use lib.ListN.{length}
-use mathlib.Core.Path.{sym, _∙_}
 use Rattle.text.proofs.Readers.{at-most, over-level, FastRun, fast-start, fast-more, fast-two, fast-three, fast-four, fast-stop}
 use Rattle.text.proofs.reader.run_end.Statement.{statement}
 use Rattle.text.proofs.reader.run_end.Tie as tie

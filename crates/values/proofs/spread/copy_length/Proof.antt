@@ -1,5 +1,4 @@
 use borrow.Author.Needs.{needs}
-use native.Mathlib.Omega.{arith}
 use Rattle.values.proofs.Copying.{length-keeps, length-plus}
 use Rattle.values.proofs.spread.copy_length.Statement.{statement}
 use Rattle.values.proofs.spread.copy_length.Tie as tie
