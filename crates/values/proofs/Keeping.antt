@@ -12,7 +12,9 @@ use Rattle.text.specs.Bytes.{Text, bytes, same, part, concatMap}
 use Rattle.text.proofs.Comparing.{drop-at, same-length, same-differ}
 use Rattle.text.proofs.Lists.{no, same-eq}
 use Rattle.text.proofs.Positions.{part-empty, part-cons}
+use Rattle.lookup.proofs.Ranking.{below-or}
 use Rattle.profile.specs.Profile.{push}
+use Rattle.profile.proofs.Listing.{length-part}
 use Rattle.values.specs.declared.Cut.{Cut}
 use Rattle.values.specs.Spread.{isSign, cuts, endsAll, stem, copies, spread}
 use Rattle.values.specs.Cutting.{upto, beyond, InCut, CutEnd, beginsAll, FreeOfAll, FirstAll, PieceStart, NextCut}
@@ -122,10 +124,6 @@ part-stem t p e l h =
     let z : e - 4 - p ≡ e - p - 4 = omega arith in
     rw (y, z) (take-take (e - p - 4) (e - p) (drop p t) (omega arith))
 
-length-part : (t : Text) (p e : ℕ) → p ≤ e → e ≤ length t → length (part t p e) ≡ e - p
-unfolding part
-length-part t p e l h = length-take (e - p) (drop p t) ∙ omega (arith, length-drop p t)
-
 -- `:all` at a place
 
 pub begins-short : (t : Text) (i : ℕ) → length t - i < 4 → false ≡ beginsAll (drop i t)
@@ -175,14 +173,7 @@ module _ (t : Text) (from i : ℕ) (v : FreeOfAll t from i) (h : i < length t) w
     where
       by : (k : ℕ) → from ≤ k → k < i + 1 → (u : Bool) → eqb k i ≡ u → beginsAll (drop k t) ≡ false
       by k a b true q = let c : k ≡ i = eqb-true k i q in rw c e
-      by k a b false q = let d = eqb-false k i q in v .free k a (under k i (omega arith) d)
-        where
-          under : (x y : ℕ) → x ≤ y → (x ≡ y → ⊥) → x < y
-          under x y l d = go (ltb x y) refl
-            where
-              go : (u : Bool) → ltb x y ≡ u → x < y
-              go true z = ltb-true x y z
-              go false z = absurd (d (let m = ltb-false x y z in omega arith))
+      by k a b false q = v .free k a (below-or k i (omega arith) (eqb-false k i q))
 
   pub free-plain : (getD t i 0 ≡ 58 → ⊥) → FreeOfAll t from (i + 1)
   free-plain n = free-more (begins-colon t i h n)
