@@ -1,5 +1,5 @@
 -- Loops that fire, and the ways of one firing.
-use Prim.Native.Nat.{ℕ, _+_, _*_, _≤_, _<_}
+use Prim.Native.Nat.{ℕ, _+_, _*_, _-_, _≤_, _<_}
 use native.Mathlib.Omega.{arith}
 use mathlib.Core.Path.{_≡_, refl, sym, ap, _∙_}
 use mathlib.Core.Bool.{Bool, true, false, cond}
@@ -7,18 +7,19 @@ use mathlib.Core.List.{List, [], _∷_, _++_}
 use lib.ListN.{length, getD, set}
 use lib.Dec.{ltb}
 use borrow.Author.Tests.{lt-ltb, le-ltb}
+use Rattle.text.specs.Limits.{longestTotal}
 use Rattle.text.specs.Bytes.{Text, empty}
-use Rattle.output.specs.Store.{past, Wrote}
+use Rattle.output.specs.Store.{farthest, past, Wrote}
 use Rattle.values.specs.Spread.{signed}
 use Rattle.firing.specs.declared.Cursors.{Cursors}
 use Rattle.answers.specs.Firings.{Firing, fired}
-use Rattle.firing.specs.Writing.{fireCur, fireBuf, runCur, runBuf, FiredOne, Low}
+use Rattle.firing.specs.Writing.{movedAt, basedAt, putCur, putBuf, full, fireCur, fireBuf, runCur, runBuf, PutAt, FiredOne, Low}
 use Rattle.firing.proofs.Regions.{low-put}
-use Rattle.firing.proofs.Written.{run-cur, run-buf, run-cur-nil, run-buf-nil, cur-append, buf-append, length-run}
+use Rattle.firing.proofs.Written.{run-cur, run-buf, run-cur-nil, run-buf-nil, cur-append, buf-append, length-run, full-fires, full-keeps, not-full}
 
 low-fire : (q : Cursors) (f : Firing) → Low (q .at) → Low (fireCur q f .at)
-unfolding fireCur
-low-fire q f h = go (ltb (f .component) 5) (signed (f .value)) (getD (q .based) (f .component) false)
+unfolding fireCur putCur movedAt basedAt
+low-fire q f h = go (full q) (ltb (f .component) 5) (signed (f .value)) (getD (q .based) (f .component) false)
   where
     c : ℕ
     c = f .component
@@ -26,17 +27,12 @@ low-fire q f h = go (ltb (f .component) 5) (signed (f .value)) (getD (q .based) 
     n : ℕ
     n = length (f .value)
 
-    x : Cursors
-    x = record { at = set (q .at) (2 * c + 1) (past (getD (q .at) (2 * c + 1) 0) n); based = q .based }
-
-    y : Cursors
-    y = record { at = set (q .at) (2 * c) (past (getD (q .at) (2 * c) 0) n); based = set (q .based) c true }
-
-    go : (t a b : Bool) → Low (cond t (cond a x (cond b q y)) q .at)
-    go false a b = h
-    go true true b = low-put (q .at) (2 * c + 1) (getD (q .at) (2 * c + 1) 0) n h
-    go true false true = h
-    go true false false = low-put (q .at) (2 * c) (getD (q .at) (2 * c) 0) n h
+    go : (u t a b : Bool) → Low (cond u q (cond t (cond a (movedAt q (2 * c + 1) n) (cond b q (basedAt c (movedAt q (2 * c) n)))) q) .at)
+    go true t a b = h
+    go false false a b = h
+    go false true true b = low-put (q .at) (2 * c + 1) (getD (q .at) (2 * c + 1) 0) n h
+    go false true false true = h
+    go false true false false = low-put (q .at) (2 * c) (getD (q .at) (2 * c) 0) n h
 
 pub low-run : (q : Cursors) (fs : List Firing) → Low (q .at) → Low (runCur q fs .at)
 unfolding runCur
@@ -77,7 +73,8 @@ one-fires : (l k c : ℕ) (v : Text) → empty v ≡ false → fired l k c v ≡
 unfolding fired
 one-fires l k c v h = rw h
 
--- The ways of one firing, for any value: whether it is empty, whether it is an addition, and that it was written at its region's cursor.
+-- The ways of one firing, for any value: whether there is no room for sure, whether it is empty, whether it is an addition, and that it was written at its
+-- region's position.
 module _ (c : ℕ) (v d : Text) (q : Cursors) where
   pub fire-nothing : empty v ≡ true → FiredOne d d q q c v
   fire-nothing h =
@@ -86,47 +83,72 @@ module _ (c : ℕ) (v d : Text) (q : Cursors) where
         places = λ l k. rw (none-fires l k c v h, run-cur-nil);
       }
 
-  pub fire-over : 4 < c → FiredOne d d q q c v
-  unfolding fireCur fireBuf
-  fire-over h = go (empty v) refl
+  pub fire-full : longestTotal < q .total → FiredOne d d q q c v
+  unfolding full
+  fire-full h = go (empty v) refl
     where
-      z : ltb c 5 ≡ false
-      z = le-ltb c 5 (omega arith)
+      u : full q ≡ true
+      u = lt-ltb longestTotal (q .total) h
 
       go : (b : Bool) → empty v ≡ b → FiredOne d d q q c v
       go true e = fire-nothing e
       go false e =
           record {
-            bytes = λ l k. rw (one-fires l k c v e, run-buf, z, run-buf-nil);
-            places = λ l k. rw (one-fires l k c v e, run-cur, z, run-cur-nil);
+            bytes = λ l k. rw (one-fires l k c v e, run-buf, full-keeps d q _ u, run-buf-nil);
+            places = λ l k. rw (one-fires l k c v e, run-cur, full-fires q _ u, run-cur-nil);
           }
 
-  pub fire-add : (d′ : Text) (r : ℕ) → c ≤ 4 → empty v ≡ false → signed v ≡ true → Wrote d d′ (getD (q .at) (2 * c + 1) 0) v r →
-      FiredOne d d′ q (record { at = set (q .at) (2 * c + 1) r; based = q .based }) c v
-  unfolding fireCur fireBuf
-  fire-add d′ r m e g w =
-      let z = lt-ltb c 5 (omega arith) in
-      record {
-        bytes = λ l k. w .text ∙ rw (one-fires l k c v e, run-buf, z, g, run-buf-nil);
-        places = λ l k. rw (w .next, one-fires l k c v e, run-cur, z, g, run-cur-nil);
-      }
+  module _ (room : q .total ≤ longestTotal) where
+    pub fire-over : 4 < c → FiredOne d d q q c v
+    unfolding fireCur fireBuf putCur putBuf
+    fire-over h = go (empty v) refl
+      where
+        z : ltb c 5 ≡ false
+        z = le-ltb c 5 (omega arith)
 
-  pub fire-skip : c ≤ 4 → empty v ≡ false → signed v ≡ false → getD (q .based) c false ≡ true → FiredOne d d q q c v
-  unfolding fireCur fireBuf
-  fire-skip m e g b =
-      let z = lt-ltb c 5 (omega arith) in
-      record {
-        bytes = λ l k. rw (one-fires l k c v e, run-buf, z, g, b, run-buf-nil);
-        places = λ l k. rw (one-fires l k c v e, run-cur, z, g, b, run-cur-nil);
-      }
+        go : (b : Bool) → empty v ≡ b → FiredOne d d q q c v
+        go true e = fire-nothing e
+        go false e =
+            record {
+              bytes = λ l k. rw (one-fires l k c v e, run-buf, not-full q room, z, run-buf-nil);
+              places = λ l k. rw (one-fires l k c v e, run-cur, not-full q room, z, run-cur-nil);
+            }
 
-  pub fire-base : (d′ : Text) (r : ℕ) → c ≤ 4 → empty v ≡ false → signed v ≡ false → getD (q .based) c false ≡ false →
-      Wrote d d′ (getD (q .at) (2 * c) 0) v r →
-      FiredOne d d′ q (record { at = set (q .at) (2 * c) r; based = set (q .based) c true }) c v
-  unfolding fireCur fireBuf
-  fire-base d′ r m e g b w =
-      let z = lt-ltb c 5 (omega arith) in
-      record {
-        bytes = λ l k. w .text ∙ rw (one-fires l k c v e, run-buf, z, g, b, run-buf-nil);
-        places = λ l k. rw (w .next, one-fires l k c v e, run-cur, z, g, b, run-cur-nil);
-      }
+    module _ (m : c ≤ 4) (e : empty v ≡ false) where
+      z : ltb c 5 ≡ true
+      z = lt-ltb c 5 (omega arith)
+
+      pub fire-add : (d′ : Text) (q′ : Cursors) → signed v ≡ true → PutAt d d′ q q′ (2 * c + 1) v → FiredOne d d′ q q′ c v
+      unfolding fireCur fireBuf putCur putBuf
+      fire-add d′ q′ g w =
+          record {
+            bytes = λ l k. w .bytes ∙ rw (one-fires l k c v e, run-buf, not-full q room, z, g, run-buf-nil);
+            places = λ l k. w .places ∙ rw (one-fires l k c v e, run-cur, not-full q room, z, g, run-cur-nil);
+          }
+
+      pub fire-skip : signed v ≡ false → getD (q .based) c false ≡ true → FiredOne d d q q c v
+      unfolding fireCur fireBuf putCur putBuf
+      fire-skip g b =
+          record {
+            bytes = λ l k. rw (one-fires l k c v e, run-buf, not-full q room, z, g, b, run-buf-nil);
+            places = λ l k. rw (one-fires l k c v e, run-cur, not-full q room, z, g, b, run-cur-nil);
+          }
+
+      pub fire-base : (d′ : Text) (q′ : Cursors) → signed v ≡ false → getD (q .based) c false ≡ false → PutAt d d′ q q′ (2 * c) v →
+          FiredOne d d′ q (basedAt c q′) c v
+      unfolding fireCur fireBuf putCur putBuf
+      fire-base d′ q′ g b w =
+          record {
+            bytes = λ l k. w .bytes ∙ rw (one-fires l k c v e, run-buf, not-full q room, z, g, b, run-buf-nil);
+            places = λ l k. rw (w .places, one-fires l k c v e, run-cur, not-full q room, z, g, b, run-cur-nil);
+          }
+
+-- a position moved on
+pub moves-on : (d d′ : Text) (p r : ℕ) (v : Text) → p ≤ farthest → Wrote d d′ p v r → (p ≤ r) × (r ≤ farthest)
+unfolding past
+moves-on d d′ p r v h w = (omega (arith, w .next), omega (arith, w .next))
+
+pub put-moved : (d d′ : Text) (q : Cursors) (r p : ℕ) (v : Text) → Wrote d d′ (getD (q .at) r 0) v p →
+    PutAt d d′ q (record { at = set (q .at) r p; based = q .based; total = q .total + (p - getD (q .at) r 0) }) r v
+unfolding movedAt
+put-moved d d′ q r p v w = record { bytes = w .text; places = rw (w .next) }

@@ -19,7 +19,7 @@ use Rattle.firing.specs.Writing.{startingAt, runCur, runBuf, Low, starts
 use Rattle.firing.specs.Stage.{between, Reached}
 use Rattle.answers.proofs.Answers.{neither}
 use Rattle.firing.proofs.Regions.{Apart, apart-starts, all-joined, grown}
-use Rattle.firing.proofs.Written.{left, written, measured, left-all}
+use Rattle.firing.proofs.Written.{left, written, measured, moved-most, Moved, moved-run, left-all}
 
 -- Lengths are counted as the distance that a position has moved. From a position that is near enough, a text that reaches the farthest one is longer than any
 -- total may be, so that counting alone decides whether there is room.
@@ -34,24 +34,6 @@ near-low (p ∷ ps) h = (omega (arith, h .0), near-low ps (h .1))
 
 counted : List ℕ → List Text → List ℕ
 counted ps ts = between ps (grown ps ts)
-
-reached-grown : (ps : List ℕ) (ts : List Text) → Low ps → length ts ≡ length ps → Reached ps (grown ps ts)
-unfolding grown Reached Low past
-reached-grown [] ts h l = tt
-reached-grown (p ∷ ps) [] h l = absurd (omega arith)
-reached-grown (p ∷ ps) (t ∷ ts) h l = (omega (arith, h .0), reached-grown ps ts (h .1) (omega arith))
-
-low-counted : (ps : List ℕ) (ts : List Text) → length ts ≡ length ps → Low (counted ps ts)
-unfolding counted between grown Low past
-low-counted [] ts l = tt
-low-counted (p ∷ ps) [] l = absurd (omega arith)
-low-counted (p ∷ ps) (t ∷ ts) l = (omega arith, low-counted ps ts (omega arith))
-
-counted-le : (ps : List ℕ) (ts : List Text) → length ts ≡ length ps → sum (counted ps ts) ≤ total ts
-unfolding counted between grown sum total past
-counted-le [] ts l = omega arith
-counted-le (p ∷ ps) [] l = absurd (omega arith)
-counted-le (p ∷ ps) (t ∷ ts) l = let e = counted-le ps ts (omega arith) in omega arith
 
 counted-fit : (ps : List ℕ) (ts : List Text) → Near ps → length ts ≡ length ps → sum (counted ps ts) ≤ longestTotal → counted ps ts ≡ map length ts
 unfolding Near counted between grown sum past
@@ -95,45 +77,70 @@ module _ (fs : List Firing) (room : Text) (fits : length room ≡ total (textsFr
       let a : Apart 0 (starts 0 (map length ts)) ts = apart-starts 0 ts (omega arith) in
       let l : length (starts 0 (map length ts)) ≡ 10 = starts-length 0 (map length ts) ∙ lengths-length ts ∙ texts-ten fs in
       let e : 0 + total ts ≡ length room = omega arith in
-      written fs room (startingAt (starts 0 (map length ts))) 0 l refl (rw (texts-left fs) a)
+      written fs room (startingAt (starts 0 (map length ts))) 0 l refl (rw (texts-left fs) (omega arith)) (rw (texts-left fs) a)
       ∙ rw (texts-left fs, all-joined room 0 ts (omega arith), e, drop-length, append-nil)
 
-room-when : (room : ℕ) (ps : List ℕ) (ts : List Text) (t : Bool) → Near ps → length ts ≡ length ps → ltb longestTotal (sum (counted ps ts)) ≡ t →
-    noRoom room (sum (counted ps ts)) ≡ noRoom room (total ts)
-unfolding noRoom total
-room-when room ps ts false n l e = rw (counted-fit ps ts n l (ltb-false longestTotal (sum (counted ps ts)) e))
-room-when room ps ts true n l e =
-    let b = lt-ltb longestTotal (total ts) (omega (arith, ltb-true longestTotal (sum (counted ps ts)) e, counted-le ps ts l)) in
-    or-right (ltb room (sum (counted ps ts))) _ e ∙ sym (or-right (ltb room (total ts)) _ b)
+-- positions that have not moved
+none-reached : (ps : List ℕ) → Reached ps ps
+unfolding Reached
+none-reached [] = tt
+none-reached (p ∷ ps) = (omega arith, none-reached ps)
+
+none-moved : (ps : List ℕ) → sum (between ps ps) ≡ 0
+unfolding between sum
+none-moved [] = refl
+none-moved (p ∷ ps) = let e = none-moved ps in omega arith
+
+low-between : (ps es : List ℕ) → Low es → Low (between ps es)
+unfolding between Low
+low-between [] es h = tt
+low-between (p ∷ ps) [] h = tt
+low-between (p ∷ ps) (e ∷ es) h = (omega (arith, h .0), low-between ps es (h .1))
 
 -- what ten positions tell after a walk, of the ten from which it started
 module _ (fs : List Firing) (ps es : List ℕ) (ten : length ps ≡ 10) (near : Near ps) (is : es ≡ runCur (startingAt ps) fs .at) where
-  ends : es ≡ grown ps (textsFrom 0 5 fs)
-  ends = is ∙ measured fs (startingAt ps) ten refl (near-low ps near) ∙ rw (texts-left fs) refl
+  walked : Moved ps (runCur (startingAt ps) fs)
+  walked =
+      moved-run ps fs (startingAt ps) ten
+      (record { ten = ten; five = refl; low = near-low ps near; reached = none-reached ps; told = none-moved ps })
 
   size : length (textsFrom 0 5 fs) ≡ length ps
   size = texts-ten fs ∙ sym ten
 
   pub ends-reached : Reached ps es
-  ends-reached = rw ends (reached-grown ps (textsFrom 0 5 fs) (near-low ps near) size)
+  ends-reached = rw is (walked .reached)
 
   module _ (ns : List ℕ) (are : ns ≡ between ps es) where
-    counts : ns ≡ counted ps (textsFrom 0 5 fs)
-    unfolding counted
-    counts = are ∙ ap (between ps) ends
+    told : sum ns ≡ runCur (startingAt ps) fs .total
+    told = rw (are, is) (walked .told)
+
+    most : sum ns ≤ total (textsFrom 0 5 fs)
+    most = omega (arith, told, rw (texts-left fs) at (moved-most fs (startingAt ps) ten refl (near-low ps near)))
 
     pub low-lengths : Low ns
-    low-lengths = rw counts (low-counted ps (textsFrom 0 5 fs) size)
+    low-lengths = rw (are, is) (low-between ps (runCur (startingAt ps) fs .at) (walked .low))
+
+    lengths-fit : sum ns ≤ longestTotal → ns ≡ map length (textsFrom 0 5 fs)
+    unfolding counted
+    lengths-fit h =
+        let e : es ≡ grown ps (textsFrom 0 5 fs) = is ∙ measured fs (startingAt ps) ten refl (near-low ps near) (omega (arith, told)) ∙ rw (texts-left fs) refl in
+        let c : ns ≡ counted ps (textsFrom 0 5 fs) = are ∙ ap (between ps) e in
+        c ∙ counted-fit ps (textsFrom 0 5 fs) near size (rw c at h)
+
+    room-when : (room : ℕ) (t : Bool) → ltb longestTotal (sum ns) ≡ t → noRoom room (sum ns) ≡ noRoom room (total (textsFrom 0 5 fs))
+    unfolding noRoom total
+    room-when room false e = rw (lengths-fit (ltb-false longestTotal (sum ns) e))
+    room-when room true e =
+        let b = lt-ltb longestTotal (total (textsFrom 0 5 fs)) (omega (arith, ltb-true longestTotal (sum ns) e, most)) in
+        or-right (ltb room (sum ns)) _ e ∙ sym (or-right (ltb room (total (textsFrom 0 5 fs))) _ b)
 
     -- Counting alone decides whether there is room: no room for the lengths as they are counted is no room for the texts.
     pub room-counted : (room n : ℕ) → n ≡ sum ns → noRoom room n ≡ noRoom room (total (textsFrom 0 5 fs))
-    room-counted room n h = rw (h, counts) (room-when room ps (textsFrom 0 5 fs) _ near size refl)
+    room-counted room n h = rw h (room-when room _ refl)
 
     pub lengths-counted : (room n : ℕ) → n ≡ sum ns → noRoom room n ≡ false → ns ≡ map length (textsFrom 0 5 fs)
     unfolding noRoom
-    lengths-counted room n h k =
-        let s : n ≡ sum (counted ps (textsFrom 0 5 fs)) = h ∙ ap sum counts in
-        counts ∙ counted-fit ps (textsFrom 0 5 fs) near size (omega (arith, s, ltb-false longestTotal n (neither (ltb room n) (ltb longestTotal n) k .1)))
+    lengths-counted room n h k = lengths-fit (omega (arith, h, ltb-false longestTotal n (neither (ltb room n) (ltb longestTotal n) k .1)))
 
 -- The ten texts written at the start of a buffer that has room for them; what is behind them is as it was.
 module _ (fs : List Firing) (d : Text) (fits : total (textsFrom 0 5 fs) ≤ length d) (low : total (textsFrom 0 5 fs) ≤ longestTotal) where

@@ -23,6 +23,12 @@ addAt r v [] = []
 addAt zero v (t ∷ ts) = (v ++ t) ∷ ts
 addAt (suc r) v (t ∷ ts) = t ∷ addAt r v ts
 
+pub total-add : (r : ℕ) (v : Text) (ts : List Text) → r < length ts → total (addAt r v ts) ≡ length v + total ts
+unfolding total sum addAt
+total-add r v [] h = absurd (omega arith)
+total-add zero v (t ∷ ts) h = omega (arith, length-append v t)
+total-add (suc r) v (t ∷ ts) h = let e = total-add r v ts (omega arith) in omega arith
+
 -- no region starts before k, each text ends where the next region starts or before, and the last ends at the farthest position or before
 unfoldable pub Apart : ℕ → List ℕ → List Text → Type 0
 Apart k [] ts = k ≤ farthest
@@ -71,7 +77,7 @@ put-at d k (p ∷ ps) (t ∷ ts) (suc r) v l h =
 
 -- the same with positions that end at the farthest
 module _ (d : Text) (k : ℕ) (ps : List ℕ) (ts : List Text) (r : ℕ) (v : Text) (l : r < length ps) (h : Apart k ps (addAt r v ts)) where
-  past-at : past (getD ps r 0) (length v) ≡ getD ps r 0 + length v
+  pub past-at : past (getD ps r 0) (length v) ≡ getD ps r 0 + length v
   unfolding past
   past-at = let n = apart-at k ps ts r v l h in omega (arith, n .1)
 
@@ -125,6 +131,10 @@ unfolding Low
 low-at [] i h = omega arith
 low-at (x ∷ ps) zero h = h .0
 low-at (x ∷ ps) (suc i) h = low-at ps i (h .1)
+
+pub past-on : (p n : ℕ) → p ≤ farthest → (p ≤ past p n) × (past p n ≤ p + n)
+unfolding past
+past-on p n h = (omega arith, omega arith)
 
 past-twice : (p : ℕ) (v t : Text) → past (past p (length v)) (length t) ≡ past p (length (v ++ t))
 unfolding past

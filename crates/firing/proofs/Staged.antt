@@ -8,12 +8,13 @@ use lib.ListN.{length, take, drop, replicate}
 use lib.Seq.{length-take-le, take-add, drop-at}
 use lib.Dec.{leb}
 use borrow.Author.Tests.{leb-true}
+use Rattle.text.specs.Limits.{longestTotal}
 use Rattle.text.specs.Bytes.{Text, part, allOf}
 use Rattle.text.proofs.Lists.{and-both}
 use Rattle.output.specs.Store.{stored, farthest}
 use Rattle.output.proofs.Stores.{length-stored, take-stored, take-before}
 use Rattle.answers.specs.Firings.{Firing}
-use Rattle.answers.specs.Answer.{textsFrom, sum}
+use Rattle.answers.specs.Answer.{textsFrom, sum, total}
 use Rattle.firing.specs.Writing.{startingAt, runBuf, Low, starts}
 use Rattle.firing.specs.Stage.{regionSize, stageSize, regions, inRegions, textsAt}
 use Rattle.firing.proofs.Regions.{storedAll, Apart}
@@ -38,6 +39,14 @@ apart-regions k (t ∷ ts) h l =
     let w = in-first (length t) (map length ts) h in
     let qs = starts (k + regionSize) (replicate (length ts) regionSize) in
     (omega arith, apart-lower (k + length t) (k + regionSize) qs ts (omega (arith, w .0)) (apart-regions (k + regionSize) ts (w .1) (omega arith)))
+
+total-regions : (ts : List Text) → inRegions (map length ts) ≡ true → total ts ≤ length ts * regionSize
+unfolding total sum
+total-regions [] h = omega arith
+total-regions (t ∷ ts) h =
+    let w = in-first (length t) (map length ts) h in
+    let e = total-regions ts (w .1) in
+    omega (arith, w .0)
 
 -- what stands before the first region
 kept-before : (n : ℕ) (d : Text) (k : ℕ) (ws : List ℕ) (ts : List Text) → n ≤ k → take n (storedAll d (starts k ws) ts) ≡ take n d
@@ -96,4 +105,5 @@ stage-texts fs d l h =
     let n : length ts ≡ 10 = texts-ten fs in
     let a : Apart 0 regions ts = rw n at (apart-regions 0 ts h (omega arith)) in
     let b = rw n at (texts-back d 0 ts h (omega arith)) in
-    rw (written fs d (startingAt regions) 0 regions-ten refl (rw (texts-left fs) a), texts-left fs) b
+    let s : 0 + total ts ≤ longestTotal = omega (arith, total-regions ts h) in
+    rw (written fs d (startingAt regions) 0 regions-ten refl (rw (texts-left fs) s) (rw (texts-left fs) a), texts-left fs) b

@@ -1,12 +1,13 @@
 -- What firings have still to write, and that they write it.
-use Prim.Native.Nat.{ℕ, zero, suc, _+_, _*_, _≤_, _<_}
+use Prim.Native.Nat.{ℕ, zero, suc, _+_, _*_, _-_, _≤_, _<_}
 use native.Mathlib.Omega.{arith}
-use mathlib.Core.Path.{_≡_, refl, _∙_}
+use mathlib.Core.Path.{_≡_, refl, sym, ap, _∙_}
 use mathlib.Core.Bool.{Bool, true, false, cond}
 use mathlib.Core.List.{List, [], _∷_, _++_, append-nil}
 use lib.ListN.{length, getD, set, replicate, length-set}
 use lib.Dec.{ltb}
-use borrow.Author.Tests.{ltb-true, ltb-false, eq-eqb, ne-eqb}
+use borrow.Author.Tests.{ltb-true, ltb-false, le-ltb, eq-eqb, ne-eqb}
+use Rattle.text.specs.Limits.{longestTotal}
 use Rattle.text.specs.Bytes.{Text}
 use Rattle.output.specs.Store.{stored, past}
 use Rattle.output.proofs.Stores.{length-stored}
@@ -14,10 +15,11 @@ use Rattle.values.specs.Spread.{signed}
 use Rattle.firing.specs.declared.Cursors.{Cursors}
 use Rattle.answers.specs.Firings.{Firing}
 use Rattle.answers.specs.Components.{valuesOf, base, additions}
-use Rattle.answers.specs.Answer.{textsFrom}
-use Rattle.firing.specs.Writing.{fireCur, fireBuf, runCur, runBuf, Low}
+use Rattle.answers.specs.Answer.{textsFrom, sum, total}
+use Rattle.firing.specs.Writing.{movedAt, basedAt, putCur, putBuf, full, fireCur, fireBuf, runCur, runBuf, Low}
+use Rattle.firing.specs.Stage.{between, Reached}
 use Rattle.answers.proofs.Updates.{add-cons, base-cons}
-use Rattle.firing.proofs.Regions.{storedAll, addAt, Apart, put-apart, put-region, blanks, all-none, grown, low-put, grown-put, grown-none}
+use Rattle.firing.proofs.Regions.{storedAll, addAt, total-add, Apart, past-at, put-apart, put-region, blanks, all-none, grown, low-put, low-at, past-on, grown-put, grown-none}
 
 -- the clauses, as equations
 pub run-cur : (q : Cursors) (f : Firing) (fs : List Firing) → runCur q (f ∷ fs) ≡ runCur (fireCur q f) fs
@@ -47,9 +49,9 @@ unfolding runBuf runCur
 buf-append d q [] b = refl
 buf-append d q (f ∷ a) b = buf-append (fireBuf d q f) (fireCur q f) a b
 
-length-fire : (d : Text) (q : Cursors) (f : Firing) → length (fireBuf d q f) ≡ length d
-unfolding fireBuf
-length-fire d q f = go (ltb (f .component) 5) (signed (f .value)) (getD (q .based) (f .component) false)
+length-put : (d : Text) (q : Cursors) (f : Firing) → length (putBuf d q f) ≡ length d
+unfolding putBuf
+length-put d q f = go (ltb (f .component) 5) (signed (f .value)) (getD (q .based) (f .component) false)
   where
     x : ℕ
     x = getD (q .at) (2 * f .component + 1) 0
@@ -62,6 +64,14 @@ length-fire d q f = go (ltb (f .component) 5) (signed (f .value)) (getD (q .base
     go true true b = length-stored d x (f .value)
     go true false true = refl
     go true false false = length-stored d y (f .value)
+
+length-fire : (d : Text) (q : Cursors) (f : Firing) → length (fireBuf d q f) ≡ length d
+unfolding fireBuf
+length-fire d q f = go (full q)
+  where
+    go : (t : Bool) → length (cond t d (putBuf d q f)) ≡ length d
+    go true = refl
+    go false = length-put d q f
 
 pub length-run : (d : Text) (q : Cursors) (fs : List Firing) → length (runBuf d q fs) ≡ length d
 unfolding runBuf
@@ -141,17 +151,42 @@ unfolding left
 left-length k [] fs = refl
 left-length k (b ∷ bs) fs = let e = left-length (suc k) bs fs in omega arith
 
--- what one firing does, as one of two ways
+-- the position of region r moved on by n bytes, and the bases that are then set
+abbrev pub onward : Cursors → ℕ → List Bool → ℕ → Cursors
+onward q r bs n =
+    record { at = set (q .at) r (past (getD (q .at) r 0) n); based = bs; total = q .total + (past (getD (q .at) r 0) n - getD (q .at) r 0) }
+
+-- with no room for sure nothing fires
+pub full-fires : (q : Cursors) (f : Firing) → full q ≡ true → fireCur q f ≡ q
+unfolding fireCur
+full-fires q f h = rw h
+
+pub full-keeps : (d : Text) (q : Cursors) (f : Firing) → full q ≡ true → fireBuf d q f ≡ d
+unfolding fireBuf
+full-keeps d q f h = rw h
+
+full-stays : (q : Cursors) (fs : List Firing) → full q ≡ true → runCur q fs ≡ q
+full-stays q [] h = run-cur-nil q
+full-stays q (f ∷ fs) h = rw (run-cur, full-fires q f h) (full-stays q fs h)
+
+pub not-full : (q : Cursors) → q .total ≤ longestTotal → full q ≡ false
+unfolding full
+not-full q h = le-ltb longestTotal (q .total) h
+
+full-over : (q : Cursors) → full q ≡ true → longestTotal < q .total
+unfolding full
+full-over q h = ltb-true longestTotal (q .total) h
+
+-- what one firing does otherwise, as one of two ways
 pub data Way (q : Cursors) (f : Firing) (fs : List Firing) : Type 0 where
   none : fireCur q f ≡ q → ((d : Text) → fireBuf d q f ≡ d) → left 0 (q .based) (f ∷ fs) ≡ left 0 (q .based) fs → Way q f fs
-  goes : (r : ℕ) (bs : List Bool) → r < 10 → length bs ≡ 5 →
-      fireCur q f ≡ record { at = set (q .at) r (past (getD (q .at) r 0) (length (f .value))); based = bs } →
+  goes : (r : ℕ) (bs : List Bool) → r < 10 → length bs ≡ 5 → fireCur q f ≡ onward q r bs (length (f .value)) →
       ((d : Text) → fireBuf d q f ≡ stored d (getD (q .at) r 0) (f .value)) →
       left 0 (q .based) (f ∷ fs) ≡ addAt r (f .value) (left 0 bs fs) → Way q f fs
 
-way : (q : Cursors) (f : Firing) (fs : List Firing) → length (q .based) ≡ 5 → Way q f fs
-unfolding fireCur fireBuf
-way q f fs l = go (ltb (f .component) 5) (signed (f .value)) (getD (q .based) (f .component) false) refl refl refl
+way : (q : Cursors) (f : Firing) (fs : List Firing) → length (q .based) ≡ 5 → full q ≡ false → Way q f fs
+unfolding fireCur fireBuf putCur putBuf movedAt basedAt
+way q f fs l u = go (ltb (f .component) 5) (signed (f .value)) (getD (q .based) (f .component) false) refl refl refl
   where
     c : ℕ
     c = f .component
@@ -159,52 +194,129 @@ way q f fs l = go (ltb (f .component) 5) (signed (f .value)) (getD (q .based) (f
     go : (t a b : Bool) → ltb c 5 ≡ t → signed (f .value) ≡ a → getD (q .based) c false ≡ b → Way q f fs
     go false a b e g h =
         let n : 5 ≤ c = ltb-false c 5 e in
-        none (rw e) (λ d. rw e) (left-behind 0 (q .based) f fs (omega arith))
+        none (rw (u, e)) (λ d. rw (u, e)) (left-behind 0 (q .based) f fs (omega arith))
     go true true b e g h =
         let n : c < 5 = ltb-true c 5 e in
         let z : suc (dbl c) ≡ 2 * c + 1 = omega (arith, dbl-is c) in
-        goes (2 * c + 1) (q .based) (omega arith) l (rw (e, g)) (λ d. rw (e, g))
+        goes (2 * c + 1) (q .based) (omega arith) l (rw (u, e, g)) (λ d. rw (u, e, g))
         (rw (left-add f fs 0 c (q .based) (omega arith) (omega arith) g, z))
     go true false true e g h =
         let n : c < 5 = ltb-true c 5 e in
-        none (rw (e, g, h)) (λ d. rw (e, g, h)) (left-skip f fs 0 c (q .based) (omega arith) (omega arith) g h)
+        none (rw (u, e, g, h)) (λ d. rw (u, e, g, h)) (left-skip f fs 0 c (q .based) (omega arith) (omega arith) g h)
     go true false false e g h =
         let n : c < 5 = ltb-true c 5 e in
-        goes (2 * c) (set (q .based) c true) (omega arith) (length-set (q .based) c true ∙ l) (rw (e, g, h)) (λ d. rw (e, g, h))
+        goes (2 * c) (set (q .based) c true) (omega arith) (length-set (q .based) c true ∙ l) (rw (u, e, g, h)) (λ d. rw (u, e, g, h))
         (rw (left-base f fs 0 c (q .based) (omega arith) (omega arith) g h, dbl-is c))
 
--- firings whose regions are apart write into each what is left for it
-pub written : (fs : List Firing) (d : Text) (q : Cursors) (k : ℕ) → length (q .at) ≡ 10 → length (q .based) ≡ 5 → Apart k (q .at) (left 0 (q .based) fs) →
-    runBuf d q fs ≡ storedAll d (q .at) (left 0 (q .based) fs)
-written [] d q k n m h = rw (run-buf-nil, left-nil, all-none)
-written (f ∷ fs) d q k n m h = go (way q f fs m) (λ d′ q′ x y z. written fs d′ q′ k x y z)
+-- firings whose regions are apart, and for which there is room, write into each what is left for it
+pub written : (fs : List Firing) (d : Text) (q : Cursors) (k : ℕ) → length (q .at) ≡ 10 → length (q .based) ≡ 5 →
+    q .total + total (left 0 (q .based) fs) ≤ longestTotal → Apart k (q .at) (left 0 (q .based) fs) → runBuf d q fs ≡ storedAll d (q .at) (left 0 (q .based) fs)
+written [] d q k n m s h = rw (run-buf-nil, left-nil, all-none)
+written (f ∷ fs) d q k n m s h = go (way q f fs m (not-full q (omega arith))) (λ d′ q′ x y w z. written fs d′ q′ k x y w z)
   where
-    go : Way q f fs → ((d′ : Text) (q′ : Cursors) → length (q′ .at) ≡ 10 → length (q′ .based) ≡ 5 → Apart k (q′ .at) (left 0 (q′ .based) fs) →
-        runBuf d′ q′ fs ≡ storedAll d′ (q′ .at) (left 0 (q′ .based) fs)) → runBuf d q (f ∷ fs) ≡ storedAll d (q .at) (left 0 (q .based) (f ∷ fs))
-    go (none a b e) next = rw (run-buf, a, b d, e) (next d q n m (rw e at h))
+    go : Way q f fs → ((d′ : Text) (q′ : Cursors) → length (q′ .at) ≡ 10 → length (q′ .based) ≡ 5 → q′ .total + total (left 0 (q′ .based) fs) ≤ longestTotal →
+        Apart k (q′ .at) (left 0 (q′ .based) fs) → runBuf d′ q′ fs ≡ storedAll d′ (q′ .at) (left 0 (q′ .based) fs)) →
+        runBuf d q (f ∷ fs) ≡ storedAll d (q .at) (left 0 (q .based) (f ∷ fs))
+    go (none a b e) next = rw (run-buf, a, b d, e) (next d q n m (rw e at s) (rw e at h))
     go (goes r bs l w a b e) next =
         let i : r < length (q .at) = omega arith in
         let g = rw e at h in
+        let x = past-at d k (q .at) (left 0 bs fs) r (f .value) i g in
+        let y = total-add r (f .value) (left 0 bs fs) (omega (arith, left-length 0 bs fs)) in
+        let z = rw (e, y) at s in
         rw (run-buf, a, b d, e)
-        (next (stored d (getD (q .at) r 0) (f .value)) (record { at = set (q .at) r (past (getD (q .at) r 0) (length (f .value))); based = bs })
-        (length-set (q .at) r (past (getD (q .at) r 0) (length (f .value))) ∙ n) w (put-apart d k (q .at) (left 0 bs fs) r (f .value) i g)
+        (next (stored d (getD (q .at) r 0) (f .value)) (onward q r bs (length (f .value)))
+        (length-set (q .at) r (past (getD (q .at) r 0) (length (f .value))) ∙ n) w (omega (arith, x, z))
+        (put-apart d k (q .at) (left 0 bs fs) r (f .value) i g)
         ∙ put-region d k (q .at) (left 0 bs fs) r (f .value) i g)
 
--- the cursors have moved on by the lengths of what was left
-pub measured : (fs : List Firing) (q : Cursors) → length (q .at) ≡ 10 → length (q .based) ≡ 5 → Low (q .at) →
+-- where there is room, the positions have moved on by the lengths of what was left
+pub measured : (fs : List Firing) (q : Cursors) → length (q .at) ≡ 10 → length (q .based) ≡ 5 → Low (q .at) → runCur q fs .total ≤ longestTotal →
     runCur q fs .at ≡ grown (q .at) (left 0 (q .based) fs)
-measured [] q n m h = rw (run-cur-nil, left-nil, grown-none (q .at) (dbl (length (q .based))) h)
-measured (f ∷ fs) q n m h = go (way q f fs m) (λ q′ x y z. measured fs q′ x y z)
+measured [] q n m h s = rw (run-cur-nil, left-nil, grown-none (q .at) (dbl (length (q .based))) h)
+measured (f ∷ fs) q n m h s = by (full q) refl (λ q′ x y z w. measured fs q′ x y z w)
   where
-    go : Way q f fs → ((q′ : Cursors) → length (q′ .at) ≡ 10 → length (q′ .based) ≡ 5 → Low (q′ .at) → runCur q′ fs .at ≡ grown (q′ .at) (left 0 (q′ .based) fs)) →
-        runCur q (f ∷ fs) .at ≡ grown (q .at) (left 0 (q .based) (f ∷ fs))
-    go (none a b e) next = rw (run-cur, a, e) (next q n m h)
+    Next : Type 0
+    Next = (q′ : Cursors) → length (q′ .at) ≡ 10 → length (q′ .based) ≡ 5 → Low (q′ .at) → runCur q′ fs .total ≤ longestTotal →
+        runCur q′ fs .at ≡ grown (q′ .at) (left 0 (q′ .based) fs)
+
+    go : Way q f fs → Next → runCur q (f ∷ fs) .at ≡ grown (q .at) (left 0 (q .based) (f ∷ fs))
+    go (none a b e) next = rw (run-cur, a, e) (next q n m h (rw (run-cur, a) at s))
     go (goes r bs l w a b e) next =
         let z : length (left 0 bs fs) ≡ length (q .at) = omega (arith, left-length 0 bs fs) in
         rw (run-cur, a, e)
-        (next (record { at = set (q .at) r (past (getD (q .at) r 0) (length (f .value))); based = bs })
+        (next (onward q r bs (length (f .value)))
         (length-set (q .at) r (past (getD (q .at) r 0) (length (f .value))) ∙ n) w (low-put (q .at) r (getD (q .at) r 0) (length (f .value)) h)
+        (rw (run-cur, a) at s)
         ∙ grown-put (q .at) (left 0 bs fs) r (f .value) z)
+
+    by : (t : Bool) → full q ≡ t → Next → runCur q (f ∷ fs) .at ≡ grown (q .at) (left 0 (q .based) (f ∷ fs))
+    by true u next = absurd (omega (arith, s, full-over q u, ap (λ (x : Cursors). x .total) (full-stays q (f ∷ fs) u)))
+    by false u next = go (way q f fs m u) next
+
+-- they never move further than that
+pub moved-most : (fs : List Firing) (q : Cursors) → length (q .at) ≡ 10 → length (q .based) ≡ 5 → Low (q .at) →
+    runCur q fs .total ≤ q .total + total (left 0 (q .based) fs)
+moved-most [] q n m h = rw run-cur-nil (omega arith)
+moved-most (f ∷ fs) q n m h = by (full q) refl (λ q′ x y z. moved-most fs q′ x y z)
+  where
+    Next : Type 0
+    Next = (q′ : Cursors) → length (q′ .at) ≡ 10 → length (q′ .based) ≡ 5 → Low (q′ .at) → runCur q′ fs .total ≤ q′ .total + total (left 0 (q′ .based) fs)
+
+    go : Way q f fs → Next → runCur q (f ∷ fs) .total ≤ q .total + total (left 0 (q .based) (f ∷ fs))
+    go (none a b e) next = rw (run-cur, a, e) (next q n m h)
+    go (goes r bs l w a b e) next =
+        let p = getD (q .at) r 0 in
+        let y = total-add r (f .value) (left 0 bs fs) (omega (arith, left-length 0 bs fs)) in
+        let i = next (onward q r bs (length (f .value))) (length-set (q .at) r (past p (length (f .value))) ∙ n) w (low-put (q .at) r p (length (f .value)) h) in
+        rw (run-cur, a, e, y) (omega (arith, i, past-on p (length (f .value)) (low-at (q .at) r h) .1))
+
+    by : (t : Bool) → full q ≡ t → Next → runCur q (f ∷ fs) .total ≤ q .total + total (left 0 (q .based) (f ∷ fs))
+    by true u next = omega (arith, ap (λ (x : Cursors). x .total) (full-stays q (f ∷ fs) u))
+    by false u next = go (way q f fs m u) next
+
+-- how far they have moved is told by the positions
+module _ (ps : List ℕ) where
+  between-set : (xs es : List ℕ) (r e : ℕ) → length es ≡ length xs → r < length es → Reached xs es → getD es r 0 ≤ e →
+      Reached xs (set es r e) × (sum (between xs (set es r e)) ≡ sum (between xs es) + (e - getD es r 0))
+  unfolding Reached between sum
+  between-set [] es r e l i h g = absurd (omega arith)
+  between-set (x ∷ xs) [] r e l i h g = absurd (omega arith)
+  between-set (x ∷ xs) (y ∷ es) zero e l i h g = ((omega (arith, h .0), h .1), omega (arith, h .0))
+  between-set (x ∷ xs) (y ∷ es) (suc r) e l i h g =
+      let w = between-set xs es r e (omega arith) (omega arith) (h .1) g in
+      ((h .0, w .0), omega (arith, w .1))
+
+  pub record Moved (q : Cursors) : Type 0 where
+    pub ten : length (q .at) ≡ 10
+    pub five : length (q .based) ≡ 5
+    pub low : Low (q .at)
+    pub reached : Reached ps (q .at)
+    pub told : sum (between ps (q .at)) ≡ q .total
+
+  pub moved-run : (fs : List Firing) (q : Cursors) → length ps ≡ 10 → Moved q → Moved (runCur q fs)
+  moved-run [] q l v = rw run-cur-nil v
+  moved-run (f ∷ fs) q l v = rw run-cur (by (full q) refl (λ q′ w. moved-run fs q′ l w))
+    where
+      go : Way q f fs → ((q′ : Cursors) → Moved q′ → Moved (runCur q′ fs)) → Moved (runCur (fireCur q f) fs)
+      go (none a b e) next = rw a (next q v)
+      go (goes r bs i w a b e) next =
+          let p = getD (q .at) r 0 in
+          let n = length (f .value) in
+          let t = between-set ps (q .at) r (past p n) (v .ten ∙ sym l) (omega (arith, v .ten)) (v .reached) (past-on p n (low-at (q .at) r (v .low)) .0) in
+          rw a
+          (next (onward q r bs n)
+          (record {
+            ten = length-set (q .at) r (past p n) ∙ v .ten;
+            five = w;
+            low = low-put (q .at) r p n (v .low);
+            reached = t .0;
+            told = t .1 ∙ ap (λ (x : ℕ). x + (past p n - p)) (v .told);
+          }))
+
+      by : (t : Bool) → full q ≡ t → ((q′ : Cursors) → Moved q′ → Moved (runCur q′ fs)) → Moved (runCur (fireCur q f) fs)
+      by true u next = rw (full-fires q f u) (next q v)
+      by false u next = go (way q f fs (v .five) u) next
 
 -- with no base set all texts are left
 pub left-all : (k n : ℕ) (fs : List Firing) → left k (replicate n false) fs ≡ textsFrom k n fs

@@ -15,7 +15,7 @@ use super::writing::fire;
 use rules::sets::word;
 use values::fill::fill_value;
 
-// A right word of a rule at the layout k: its value is made in `scratch` and fires.
+// A right word of a rule at the layout k: its value is made in `scratch` and fires, unless there is no room for sure.
 fn fire_value(
     x: &[u8],
     component: usize,
@@ -29,12 +29,15 @@ fn fire_value(
     buf: &mut [u8],
     q: Cursors,
 ) -> Cursors
-    requires { ⌜ (n ≡ length (fields (now layouts))) × (1 ≤ n) × (n < 100) × (k < 100) × Short (now model) (now layouts) (now variants)
+    requires { ⌜ (n ≡ length (fields (now layouts))) × (1 ≤ n) × (n < 10) × (k < 100) × Short (now model) (now layouts) (now variants)
         × (mostPerByte * length (now x) ≤ length (now scratch)) × (length (now scratch) ≤ farthest) × (length (now buf) ≤ farthest) × Low (q .at)
         × Bounds (now layouts) (now variants) (now bounds) ⌝ }
     ensures { λ r. ⌜ FiredOne (now (buf .entry)) (now (buf .exit)) q r component
         (expanded (profileOf (textsOf (now (model .entry)) (now (layouts .entry)) (now (variants .entry)) [])) k (now (x .entry))) ⌝ }
 {
+    if 1048576 < q.total {
+        return q;
+    }
     let length = fill_value(x, model, layouts, variants, bounds, n, k, scratch);
     fire(&scratch[0..length], n, component, buf, q)
 }
@@ -58,7 +61,7 @@ pub fn fire_rule(
 ) -> Cursors
     requires { ⌜ Placed (now w) (now places) (wordsOf (now w)) (length (wordsOf (now w))) × (count ≡ length (wordsOf (now w))) × (from ≤ count) × (count ≤ 10)
         × (count ≤ from + 5) × ShortWords (wordsOf (now w))
-        × (n ≡ length (fields (now layouts))) × (1 ≤ n) × (n < 100) × (k < 100) × Short (now model) (now layouts) (now variants)
+        × (n ≡ length (fields (now layouts))) × (1 ≤ n) × (n < 10) × (k < 100) × Short (now model) (now layouts) (now variants)
         × (8192 ≤ length (now scratch)) × (length (now scratch) ≤ farthest) × (length (now buf) ≤ farthest) × Low (q .at)
         × Bounds (now layouts) (now variants) (now bounds) ⌝ }
     ensures { λ r. ⌜ FiredRule (profileOf (textsOf (now (model .entry)) (now (layouts .entry)) (now (variants .entry)) []))

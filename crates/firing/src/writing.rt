@@ -2,19 +2,33 @@
 ghost use mathlib.Core.Path.{_≡_};
 ghost use Prim.Native.Nat.{_≤_, _<_};
 ghost use lib.ListN.{length};
+ghost use Rattle.text.specs.Limits.{longestTotal};
 ghost use Rattle.text.specs.Bytes.{concatMap};
 ghost use Rattle.output.specs.Store.{farthest};
 ghost use Rattle.values.specs.Spread.{cuts, spread};
 ghost use Rattle.answers.specs.Answer.{sum};
-ghost use Rattle.firing.specs.Writing.{FiredOne, Low, starts};
+ghost use Rattle.firing.specs.Writing.{PutAt, FiredOne, Low, starts};
 use super::Cursors;
 use super::Sums;
 use values::spread::is_signed;
 use values::spread::put_spread;
 
+// Writes a value at the position of region r, which moves on.
+fn put_at(t: &[u8], n: usize, r: usize, buf: &mut [u8], q: Cursors) -> Cursors
+    requires { ⌜ (n < 10) × (length (now t) ≤ farthest) × (length (now buf) ≤ farthest) × (r < 10) × Low (q .at) × (q .total ≤ longestTotal) ⌝ }
+    ensures { λ m. ⌜ PutAt (now (buf .entry)) (now (buf .exit)) q m r (concatMap (spread n) (cuts (now (t .entry)))) ⌝ }
+{
+    let from = q.at[r];
+    let p = put_spread(t, n, buf, from);
+    let mut next = q;
+    next.at[r] = p;
+    next.total = q.total + (p - from);
+    next
+}
+
 // A value of a component fires: `t` is its text with the profile's values put in, `n` the number of layouts.
 pub fn fire(t: &[u8], n: usize, component: usize, buf: &mut [u8], q: Cursors) -> Cursors
-    requires { ⌜ (1 ≤ n) × (n < 100) × (length (now buf) ≤ farthest) × Low (q .at) ⌝ }
+    requires { ⌜ (1 ≤ n) × (n < 10) × (length (now t) ≤ farthest) × (length (now buf) ≤ farthest) × Low (q .at) × (q .total ≤ longestTotal) ⌝ }
     ensures { λ r. ⌜ FiredOne (now (buf .entry)) (now (buf .exit)) q r component (concatMap (spread n) (cuts (now (t .entry)))) ⌝ }
 {
     if 4 < component {
@@ -23,15 +37,13 @@ pub fn fire(t: &[u8], n: usize, component: usize, buf: &mut [u8], q: Cursors) ->
     if t.len() == 0 {
         return q;
     }
-    let mut next = q;
     if is_signed(t) {
-        next.at[2 * component + 1] = put_spread(t, n, buf, q.at[2 * component + 1]);
-        return next;
+        return put_at(t, n, 2 * component + 1, buf, q);
     }
     if q.based[component] {
         return q;
     }
-    next.at[2 * component] = put_spread(t, n, buf, q.at[2 * component]);
+    let mut next = put_at(t, n, 2 * component, buf, q);
     next.based[component] = true;
     next
 }

@@ -80,6 +80,7 @@ fn fire_file(
     let q = Cursors {
         at,
         based: [false; 5],
+        total: 0,
     };
     let m = walk(
         s,

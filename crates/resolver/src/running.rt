@@ -58,7 +58,7 @@ fn fire_line(
 ) -> RuleRun
     requires { ⌜ Within (now s) (now t) fence from line × (length (now places) ≡ 20) × SetSized h
         × (length (left (now s) from) ≡ 1 + h .right) × ShortWords (left (now s) from)
-        × (n ≡ length (fields (now layouts))) × (1 ≤ n) × (n < 100) × (k < 100) × Short (now model) (now layouts) (now variants)
+        × (n ≡ length (fields (now layouts))) × (1 ≤ n) × (n < 10) × (k < 100) × Short (now model) (now layouts) (now variants)
         × (8192 ≤ length (now scratch)) × (length (now scratch) ≤ farthest) × (length (now buf) ≤ farthest) × Low (q .at)
         × Bounds (now layouts) (now variants) (now bounds) ⌝ }
     ensures { λ r. ⌜ FiredLine (profileOf (textsOf (now (model .entry)) (now (layouts .entry)) (now (variants .entry)) [])) (headingBy h .components)
@@ -121,7 +121,7 @@ fn run_line(
     requires { ⌜ Within (now s) (now t) fence from line × (length (now places) ≡ 20) × Named (now s) (now names) groups
         × Rowed (profileOf (textsOf (now model) (now layouts) (now variants) (now options))) (now s) (now names) (now rows) groups
         × SetSized h × Listed (now options) (now table) listed × (length (optionsOf (now options)) ≤ mostOptions)
-        × (n ≡ length (fields (now layouts))) × (1 ≤ n) × (n < 100) × (k ≤ 4) × (anyOf perLayout (headingBy h .columns) ≡ true → 1 ≤ k)
+        × (n ≡ length (fields (now layouts))) × (1 ≤ n) × (n < 10) × (k ≤ 4) × (anyOf perLayout (headingBy h .columns) ≡ true → 1 ≤ k)
         × (now layout ≡ getD (fields (now layouts)) (k - 1) []) × (now variant ≡ getD (fields (now variants)) (k - 1) [])
         × ((length (left (now s) from) ≡ 0 → ⊥) → length (left (now s) from) ≡ h .left + 1 + h .right) × ShortWords (left (now s) from)
         × Short (now model) (now layouts) (now variants)
@@ -209,7 +209,7 @@ pub fn run_set(
     requires { ⌜ Table (now t) × Fenced (now s) fence × (length (now places) ≡ 20) × Named (now s) (now names) groups
         × Rowed (profileOf (textsOf (now model) (now layouts) (now variants) (now options))) (now s) (now names) (now rows) groups
         × SetSized h × Listed (now options) (now table) listed × (length (optionsOf (now options)) ≤ mostOptions)
-        × (n ≡ length (fields (now layouts))) × (1 ≤ n) × (n < 100) × (k ≤ 4) × (anyOf perLayout (headingBy h .columns) ≡ true → 1 ≤ k)
+        × (n ≡ length (fields (now layouts))) × (1 ≤ n) × (n < 10) × (k ≤ 4) × (anyOf perLayout (headingBy h .columns) ≡ true → 1 ≤ k)
         × Short (now model) (now layouts) (now variants)
         × (8192 ≤ length (now scratch)) × (length (now scratch) ≤ farthest) × (length (now buf) ≤ farthest) × Low (q .at)
         × (start ≤ length (now s)) × (number ≤ start + 1)
@@ -296,7 +296,7 @@ pub fn run_layouts(
     requires { ⌜ Table (now t) × Fenced (now s) fence × (length (now places) ≡ 20) × Named (now s) (now names) groups
         × Rowed (profileOf (textsOf (now model) (now layouts) (now variants) (now options))) (now s) (now names) (now rows) groups
         × SetSized h × Listed (now options) (now table) listed × (length (optionsOf (now options)) ≤ mostOptions)
-        × (n ≡ length (fields (now layouts))) × (1 ≤ n) × (n < 100) × (first + count ≤ 5) × (anyOf perLayout (headingBy h .columns) ≡ true → 1 ≤ first)
+        × (n ≡ length (fields (now layouts))) × (1 ≤ n) × (n < 10) × (first + count ≤ 5) × (anyOf perLayout (headingBy h .columns) ≡ true → 1 ≤ first)
         × Short (now model) (now layouts) (now variants)
         × (8192 ≤ length (now scratch)) × (length (now scratch) ≤ farthest) × (length (now buf) ≤ farthest) × Low (q .at)
         × (start ≤ length (now s)) × (number ≤ start + 1)

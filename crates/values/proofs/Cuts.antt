@@ -1,7 +1,7 @@
 -- The pieces of a filled value, one after the other.
 use Prim.Native.Nat.{ℕ, _+_, _≤_, _<_}
 use native.Mathlib.Omega.{arith}
-use mathlib.Core.Path.{_≡_, refl, _∙_}
+use mathlib.Core.Path.{_≡_, refl, sym, ap, _∙_}
 use mathlib.Core.List.{List, [], _∷_, _++_, append-nil, append-assoc}
 use mathlib.Core.Bool.{Bool, true, false, cond}
 use lib.ListN.{length, drop, getD, drop-of-length-le}
@@ -10,7 +10,7 @@ use Rattle.text.proofs.Comparing.{drop-at}
 use Rattle.text.proofs.Positions.{part-empty, part-snoc, part-cons}
 use Rattle.profile.specs.Profile.{push}
 use Rattle.values.specs.Spread.{isSign, cuts}
-use Rattle.values.specs.Cutting.{upto, beyond, InCut, CutEnd}
+use Rattle.values.specs.Cutting.{upto, beyond, InCut}
 
 -- the cuts behind the first
 unfoldable pub later : Text → List Text
@@ -66,10 +66,6 @@ pub upto-other : (b : ℕ) (r : Text) → isSign b ≡ false → upto (b ∷ r) 
 unfolding upto
 upto-other b r e = rw e
 
-beyond-sign : (b : ℕ) (r : Text) → isSign b ≡ true → beyond (b ∷ r) ≡ b ∷ r
-unfolding beyond
-beyond-sign b r e = rw e
-
 pub beyond-other : (b : ℕ) (r : Text) → isSign b ≡ false → beyond (b ∷ r) ≡ beyond r
 unfolding beyond
 beyond-other b r e = rw e
@@ -78,51 +74,54 @@ pub upto-nil : upto [] ≡ []
 unfolding upto
 upto-nil = refl
 
-beyond-nil : beyond [] ≡ []
-unfolding beyond
-beyond-nil = refl
+-- what stands before the first sign, and from it on
+pub upto-beyond : (r : Text) → upto r ++ beyond r ≡ r
+unfolding upto beyond
+upto-beyond [] = refl
+upto-beyond (b ∷ r) = go (isSign b) (upto-beyond r)
+  where
+    go : (t : Bool) → upto r ++ beyond r ≡ r → cond t [] (b ∷ upto r) ++ cond t (b ∷ r) (beyond r) ≡ b ∷ r
+    go true h = refl
+    go false h = ap (λ (x : Text). b ∷ x) h
 
--- the loops of `pass_plain` and `cut_end`
+pub beyond-starts : (r : Text) → upto (beyond r) ≡ []
+unfolding beyond
+beyond-starts [] = upto-nil
+beyond-starts (b ∷ r) = go (isSign b) refl (beyond-starts r)
+  where
+    go : (t : Bool) → isSign b ≡ t → upto (beyond r) ≡ [] → upto (cond t (b ∷ r) (beyond r)) ≡ []
+    go true e h = upto-sign b r e
+    go false e h = h
+
+-- no sign stands from `from` up to e, and at e one stands or the text ends
+pub record CutEnd (t : Text) (from e : ℕ) : Type 0 where
+  pub low : from ≤ e
+  pub high : e ≤ length t
+  pub piece : upto (drop from t) ≡ part t from e
+  pub rest : beyond (drop from t) ≡ drop e t
+
 module _ (t : Text) (from : ℕ) where
   pub in-cut-start : from ≤ length t → InCut t from from
   in-cut-start h = record { low = omega arith; high = h; piece = rw (part-empty t from); rest = refl }
 
   module _ (i : ℕ) (v : InCut t from i) where
-    pub in-cut-end : length t ≤ i → CutEnd t from i
+    pub in-cut-end : upto (drop i t) ≡ [] → CutEnd t from i
     in-cut-end h =
-        let z = drop-of-length-le t h in
-        record { low = v .low; high = v .high; piece = v .piece ∙ rw (z, upto-nil, append-nil); rest = v .rest ∙ rw (z, beyond-nil) }
+        record {
+          low = v .low;
+          high = v .high;
+          piece = v .piece ∙ rw (h, append-nil);
+          rest = v .rest ∙ (ap (λ (x : Text). x ++ beyond (drop i t)) (sym h) ∙ upto-beyond (drop i t));
+        }
 
-    module _ (h : i < length t) where
-      pub in-cut-more : isSign (getD t i 0) ≡ false → InCut t from (i + 1)
-      in-cut-more e =
-          record {
-            low = omega (arith, v .low);
-            high = omega arith;
-            piece = v .piece ∙ rw (drop-at t i h, upto-other _ _ e, part-snoc t from i (v .low) h, append-assoc) refl;
-            rest = v .rest ∙ rw (drop-at t i h, beyond-other _ _ e);
-          }
-
-      pub in-cut-sign : isSign (getD t i 0) ≡ true → CutEnd t from i
-      in-cut-sign e =
-          record {
-            low = v .low;
-            high = v .high;
-            piece = v .piece ∙ rw (drop-at t i h, upto-sign _ _ e, append-nil);
-            rest = v .rest ∙ rw (drop-at t i h, beyond-sign _ _ e);
-          }
-
-pub in-cut-four : (t : Text) (from i : ℕ) → InCut t from i → i + 3 < length t → isSign (getD t i 0) ≡ false → isSign (getD t (i + 1) 0) ≡ false →
-    isSign (getD t (i + 2) 0) ≡ false → isSign (getD t (i + 3) 0) ≡ false → InCut t from (i + 4)
-in-cut-four t from i v h e₀ e₁ e₂ e₃ =
-    let v₁ = in-cut-more t from i v (omega arith) e₀ in
-    let v₂ = in-cut-more t from (i + 1) v₁ (omega arith) e₁ in
-    let q₂ : i + 1 + 1 ≡ i + 2 = omega arith in
-    let v₃ = in-cut-more t from (i + 2) (rw q₂ at v₂) (omega arith) e₂ in
-    let q₃ : i + 2 + 1 ≡ i + 3 = omega arith in
-    let v₄ = in-cut-more t from (i + 3) (rw q₃ at v₃) (omega arith) e₃ in
-    let q₄ : i + 3 + 1 ≡ i + 4 = omega arith in
-    rw q₄ at v₄
+    pub in-cut-more : i < length t → isSign (getD t i 0) ≡ false → InCut t from (i + 1)
+    in-cut-more h e =
+        record {
+          low = omega (arith, v .low);
+          high = omega arith;
+          piece = v .piece ∙ rw (drop-at t i h, upto-other _ _ e, part-snoc t from i (v .low) h, append-assoc) refl;
+          rest = v .rest ∙ rw (drop-at t i h, beyond-other _ _ e);
+        }
 
 -- what a loop over the pieces does to what is left
 pub cut-at : (f : Text → Text) (t : Text) (i e : ℕ) → f [] ≡ [] → i < length t → CutEnd t (i + 1) e →

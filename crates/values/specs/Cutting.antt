@@ -1,9 +1,9 @@
 -- A text cut before its signs, met piece by piece.
-use Prim.Native.Nat.{ℕ, _+_, _-_, _≤_, _<_}
+use Prim.Native.Nat.{ℕ, _+_, _≤_, _<_}
 use mathlib.Core.Path.{_≡_}
 use mathlib.Core.List.{[], _∷_, _++_}
 use mathlib.Core.Bool.{Bool, true, false, cond}
-use lib.ListN.{length, take, drop, getD}
+use lib.ListN.{length, drop, getD}
 use Rattle.text.specs.Bytes.{Text, bytes, same, part, concatMap}
 use Rattle.values.specs.declared.Cut.{Cut}
 use Rattle.values.specs.Spread.{isSign, cuts, copies, spread}
@@ -24,27 +24,20 @@ pub record InCut (t : Text) (from i : ℕ) : Type 0 where
   pub piece : upto (drop from t) ≡ part t from i ++ upto (drop i t)
   pub rest : beyond (drop from t) ≡ beyond (drop i t)
 
--- no sign stands from `from` up to e, and at e one stands or the text ends
-pub record CutEnd (t : Text) (from e : ℕ) : Type 0 where
-  pub low : from ≤ e
-  pub high : e ≤ length t
-  pub piece : upto (drop from t) ≡ part t from e
-  pub rest : beyond (drop from t) ≡ drop e t
+-- `:all` stands at a text's start, and no more before the first sign or the end: a piece ends with it
+unfoldable pub closesAll : Text → Bool
+closesAll t = same (upto t) (bytes ":all")
 
--- a text begins with `:all`
-unfoldable pub beginsAll : Text → Bool
-beginsAll t = same (take 4 t) (bytes ":all")
-
--- from `from` up to i nowhere `:all` begins
+-- no piece ends with an `:all` that begins from `from` up to i
 pub record FreeOfAll (t : Text) (from i : ℕ) : Type 0 where
   pub low : from ≤ i
   pub high : i ≤ length t
-  pub free : (k : ℕ) → from ≤ k → k < i → beginsAll (drop k t) ≡ false
+  pub free : (k : ℕ) → from ≤ k → k < i → closesAll (drop k t) ≡ false
 
--- the first place from `from` on where `:all` begins, or the text's end
+-- the first place from `from` on where an `:all` begins that a piece ends with, or the text's end
 pub record FirstAll (t : Text) (from i : ℕ) : Type 0 where
   pub free : FreeOfAll t from i
-  pub here : i < length t → beginsAll (drop i t) ≡ true
+  pub here : i < length t → closesAll (drop i t) ≡ true
 
 -- the piece that the place c stands in starts at p, not before `from`: there, or at a sign
 pub record PieceStart (t : Text) (from c p : ℕ) : Type 0 where
@@ -58,7 +51,7 @@ pub record NextCut (t : Text) (from : ℕ) (r : Cut) : Type 0 where
   pub low : from ≤ r .start
   pub high : r .start ≤ length t
   pub none : length t ≤ r .start → (n : ℕ) → concatMap (spread n) (cuts (drop from t)) ≡ part t from (r .start)
-  pub long : r .start < length t → r .start + 4 ≤ r .end
-  pub inside : r .start < length t → r .end ≤ length t
+  pub long : r .start < length t → r .start ≤ r .all
+  pub inside : r .start < length t → r .all + 4 ≤ length t
   pub found : r .start < length t → (n : ℕ) →
-      concatMap (spread n) (cuts (drop from t)) ≡ part t from (r .start) ++ (copies n 1 (part t (r .start) (r .end - 4)) ++ concatMap (spread n) (cuts (drop (r .end) t)))
+      concatMap (spread n) (cuts (drop from t)) ≡ part t from (r .start) ++ (copies n 1 (part t (r .start) (r .all)) ++ concatMap (spread n) (cuts (drop (r .all + 4) t)))

@@ -4,8 +4,8 @@ pub mod fill;
 pub mod spread;
 pub mod write;
 
-// A piece of a value: where it starts, and where it ends.
+// A piece of a value that ends with `:all`: where it starts, and where its `:all` does.
 pub struct Cut {
     pub start: usize,
-    pub end: usize,
+    pub all: usize,
 }

@@ -8,8 +8,8 @@ ghost use lib.Dec.{eqb};
 ghost use Rattle.text.specs.Bytes.{concatMap};
 ghost use Rattle.output.specs.Store.{farthest, Wrote};
 ghost use Rattle.rules.specs.Headings.{decimal};
-ghost use Rattle.values.specs.Spread.{isSign, signed, cuts, endsAll, copy, copies, spread};
-ghost use Rattle.values.specs.Cutting.{InCut, CutEnd, beginsAll, FreeOfAll, FirstAll, PieceStart, NextCut};
+ghost use Rattle.values.specs.Spread.{isSign, signed, cuts, copy, copies, spread};
+ghost use Rattle.values.specs.Cutting.{closesAll, FreeOfAll, FirstAll, PieceStart, NextCut};
 use super::Cut;
 use super::write;
 
@@ -25,17 +25,6 @@ pub fn is_signed(t: &[u8]) -> bool
     ensures { λ r. ⌜ r ≡ signed (now (t .entry)) ⌝ }
 {
     is_sign(text::bytes::peek(t, 0))
-}
-
-// Whether a piece ends with `:all`.
-pub fn ends_all(t: &[u8]) -> bool
-    ensures { λ r. ⌜ r ≡ endsAll (now (t .entry)) ⌝ }
-{
-    if t.len() < 4 {
-        return false;
-    }
-    let a = t.len() - 4;
-    text::compare::same(&t[a..], b":all")
 }
 
 // Whether the k-th copy of a piece begins as the piece does.
@@ -57,35 +46,11 @@ pub fn put_end(k: usize, out: &mut [u8], at: u32) -> u32
     write::put_number(k, out, next)
 }
 
-// How many digits a copy's number has.
-fn digits(k: usize) -> usize
-    ensures { λ r. ⌜ (r ≡ length (decimal k)) × (r ≤ 2) ⌝ }
-{
-    if k < 10 {
-        return 1;
-    }
-    2
-}
-
-// How long the k-th copy of a piece is, `t` being what stands before its `:all`.
-fn copy_length(t: &[u8], k: usize) -> usize
-    ensures { λ r. ⌜ r ≡ length (copy k (now (t .entry))) ⌝ }
-{
-    let n = digits(k);
-    if keeps(t, k) {
-        return t.len() + 1 + n;
-    }
-    t.len() + 2 + n
-}
-
-// Writes the k-th copy of a piece. Behind the buffer's end it is counted alone.
-pub fn put_copy(t: &[u8], k: usize, out: &mut [u8], at: u32) -> u32
+// Writes the k-th copy of a piece, `t` being what stands before its `:all`.
+fn put_copy(t: &[u8], k: usize, out: &mut [u8], at: u32) -> u32
     requires { ⌜ (k < 100) × (length (now out) ≤ farthest) ⌝ }
     ensures { λ r. ⌜ Wrote (now (out .entry)) (now (out .exit)) at (copy k (now (t .entry))) r ⌝ }
 {
-    if out.len() <= output::wide(at) {
-        return output::past(at, copy_length(t, k));
-    }
     if keeps(t, k) {
         let a = write::put_text(t, out, at);
         return put_end(k, out, a);
@@ -95,11 +60,29 @@ pub fn put_copy(t: &[u8], k: usize, out: &mut [u8], at: u32) -> u32
     put_end(k, out, a)
 }
 
-// Writes the copies 1 to n of a piece.
-pub fn put_copies(t: &[u8], n: usize, out: &mut [u8], at: u32) -> u32
-    requires { ⌜ (n < 100) × (length (now out) ≤ farthest) × (at ≤ farthest) ⌝ }
+// How long the copies 1 to n of a piece are together.
+fn copies_length(t: &[u8], n: usize) -> usize
+    requires { ⌜ (n < 10) × (length (now t) ≤ farthest) ⌝ }
+    ensures { λ r. ⌜ r ≡ length (copies n 1 (now (t .entry))) ⌝ }
+{
+    let kept = n * (t.len() + 2);
+    if is_signed(t) {
+        return kept;
+    }
+    if n == 0 {
+        return kept;
+    }
+    kept + n - 1
+}
+
+// Writes the copies 1 to n of a piece. Behind the buffer's end they are counted alone.
+fn put_copies(t: &[u8], n: usize, out: &mut [u8], at: u32) -> u32
+    requires { ⌜ (n < 10) × (length (now t) ≤ farthest) × (length (now out) ≤ farthest) × (at ≤ farthest) ⌝ }
     ensures { λ r. ⌜ Wrote (now (out .entry)) (now (out .exit)) at (copies n 1 (now (t .entry))) r ⌝ }
 {
+    if out.len() <= output::wide(at) {
+        return output::past(at, copies_length(t, n));
+    }
     let mut k: usize = 1;
     let mut o: u32 = at;
     while k <= n {
@@ -109,49 +92,10 @@ pub fn put_copies(t: &[u8], n: usize, out: &mut [u8], at: u32) -> u32
     o
 }
 
-// A place up to which no sign stands: four bytes a turn.
-fn pass_plain(t: &[u8], from: usize) -> usize
-    requires { ⌜ from ≤ length (now t) ⌝ }
-    ensures { λ r. ⌜ InCut (now (t .entry)) from r ⌝ }
-{
-    let mut i: usize = from;
-    while i + 3 < t.len() {
-        if is_sign(t[i]) {
-            return i;
-        }
-        if is_sign(t[i + 1]) {
-            return i;
-        }
-        if is_sign(t[i + 2]) {
-            return i;
-        }
-        if is_sign(t[i + 3]) {
-            return i;
-        }
-        i += 4;
-    }
-    i
-}
-
-// Where the piece that goes on at `from` ends: before the next sign, or at the text's end.
-pub fn cut_end(t: &[u8], from: usize) -> usize
-    requires { ⌜ from ≤ length (now t) ⌝ }
-    ensures { λ r. ⌜ CutEnd (now (t .entry)) from r ⌝ }
-{
-    let mut i: usize = pass_plain(t, from);
-    while i < t.len() {
-        if is_sign(t[i]) {
-            return i;
-        }
-        i += 1;
-    }
-    i
-}
-
-// Whether `:all` begins at i.
-fn begins_all(t: &[u8], i: usize) -> bool
+// Whether an `:all` begins at i that a piece ends with.
+fn closes_all(t: &[u8], i: usize) -> bool
     requires { ⌜ i < length (now t) ⌝ }
-    ensures { λ r. ⌜ r ≡ beginsAll (drop i (now (t .entry))) ⌝ }
+    ensures { λ r. ⌜ r ≡ closesAll (drop i (now (t .entry))) ⌝ }
 {
     if t[i] != b':' {
         return false;
@@ -162,7 +106,16 @@ fn begins_all(t: &[u8], i: usize) -> bool
     if t[i + 1] != b'a' {
         return false;
     }
-    text::compare::same(&t[i..i + 4], b":all")
+    if t[i + 2] != b'l' {
+        return false;
+    }
+    if t[i + 3] != b'l' {
+        return false;
+    }
+    if t.len() - i == 4 {
+        return true;
+    }
+    is_sign(t[i + 4])
 }
 
 // A place up to which no colon stands: four bytes a turn.
@@ -189,17 +142,17 @@ fn pass_colonless(t: &[u8], from: usize) -> usize
     i
 }
 
-// The first place from `from` on where `:all` begins, or the text's end.
+// The first place from `from` on where an `:all` begins that a piece ends with, or the text's end.
 fn find_all(t: &[u8], from: usize) -> usize
     requires { ⌜ from ≤ length (now t) ⌝ }
     ensures { λ r. ⌜ FirstAll (now (t .entry)) from r ⌝ }
 {
     let mut i: usize = pass_colonless(t, from);
     while i < t.len() {
-        if begins_all(t, i) {
+        if closes_all(t, i) {
             return i;
         }
-        i += 1;
+        i = pass_colonless(t, i + 1);
     }
     i
 }
@@ -224,22 +177,15 @@ fn next_cut(t: &[u8], from: usize) -> Cut
     requires { ⌜ from ≤ length (now t) ⌝ }
     ensures { λ r. ⌜ NextCut (now (t .entry)) from r ⌝ }
 {
-    let mut i = from;
-    loop {
-        let c = find_all(t, i);
-        if t.len() <= c {
-            return Cut {
-                start: t.len(),
-                end: t.len(),
-            };
-        }
-        let start = piece_start(t, i, c);
-        let end = cut_end(t, c + 4);
-        if ends_all(&t[start..end]) {
-            return Cut { start, end };
-        }
-        i = end;
+    let all = find_all(t, from);
+    if t.len() <= all {
+        return Cut {
+            start: t.len(),
+            all,
+        };
     }
+    let start = piece_start(t, from, all);
+    Cut { start, all }
 }
 
 // Writes what stays as it is, which is often nothing.
@@ -255,7 +201,7 @@ fn put_kept(t: &[u8], out: &mut [u8], at: u32) -> u32
 
 // Writes a filled value with its `:all` spread over n layouts. At the farthest position nothing is written any more, and none is gone on to.
 pub fn put_spread(t: &[u8], n: usize, out: &mut [u8], at: u32) -> u32
-    requires { ⌜ (n < 100) × (length (now out) ≤ farthest) × (at ≤ farthest) ⌝ }
+    requires { ⌜ (n < 10) × (length (now t) ≤ farthest) × (length (now out) ≤ farthest) × (at ≤ farthest) ⌝ }
     ensures { λ r. ⌜ Wrote (now (out .entry)) (now (out .exit)) at (concatMap (spread n) (cuts (now (t .entry)))) r ⌝ }
 {
     if 1058817 <= at {
@@ -270,8 +216,8 @@ pub fn put_spread(t: &[u8], n: usize, out: &mut [u8], at: u32) -> u32
         if t.len() <= start {
             return o;
         }
-        let end = x.end;
-        o = put_copies(&t[start..end - 4], n, out, o);
-        i = end;
+        let all = x.all;
+        o = put_copies(&t[start..all], n, out, o);
+        i = all + 4;
     }
 }

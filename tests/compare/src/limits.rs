@@ -231,6 +231,17 @@ fn up_to(heading: &str, word: &str, fired: usize, total: usize) -> String {
     rules + &additions("geometry", total % fired)
 }
 
+/// Rules whose additions to the five components are this long together, no component's longer than a third.
+fn in_five(total: usize) -> String {
+    let word = format!("+{}", "%m".repeat(60));
+    let length = 5 * (1 + 60 * 64);
+    let mut rules = "! option = keycodes types compat symbols geometry\n".to_string();
+    for _ in 0..total / length {
+        rules += &format!("* = {word} {word} {word} {word} {word}\n");
+    }
+    rules + &additions("geometry", total % length)
+}
+
 fn totals(list: &mut Vec<Case>) {
     let model = "m".repeat(64);
     let items = format!("+{}", "%m".repeat(127));
@@ -241,6 +252,15 @@ fn totals(list: &mut Vec<Case>) {
         for room in [0, TOTAL - 2, TOTAL - 1, TOTAL, TOTAL + 1, 2 * TOTAL] {
             list.push(Case::text(&one, [&model, "us", "", ""], room));
             list.push(Case::text(&four, [&model, "a,b,c,d", "", ""], room));
+        }
+    }
+    for total in [TOTAL - 1, TOTAL, TOTAL + 1, TOTAL + 2] {
+        let shared = in_five(total);
+        for more in ["", "! model = symbols\n* = s\n", "! option = types\n* = %v[3]\n* = +t\n"] {
+            for room in [0, TOTAL - 1, TOTAL, TOTAL + 1, 2 * TOTAL] {
+                let rules = format!("{shared}{more}");
+                list.push(Case::text(&rules, [&model, "us", "", ""], room));
+            }
         }
     }
     let model = "+:all".repeat(12);

@@ -1,10 +1,15 @@
 use borrow.Author.Needs.{needs}
+use Rattle.firing.proofs.Going.{fire-full}
 use Rattle.firing.proofs.ValueFires.{value-fired}
-use borrow.Author.Needs.{needs}
 use Rattle.firing.proofs.rule.fire_value.Statement.{statement}
 use Rattle.firing.proofs.rule.fire_value.Tie as tie
+use Rattle.firing.proofs.rule.fire_value.Reads as reads
+use Rattle.firing.proofs.rule.fire_value.Lts as lts
 use Rattle.firing.proofs.writing.fire.Reads as fire-reads
 use Rattle.values.proofs.fill.fill_value.Reads as fill-value-reads
+
+returns : tie.Need-returns
+returns c = fire-full _ _ _ _ (c .if1 .taken)
 
 fill-value-requires : tie.Need-fill-value-requires
 fill-value-requires c κs = search needs
@@ -27,13 +32,14 @@ same-length c = search needs
 same-length-2 : tie.Need-same-length-2
 same-length-2 c = search needs
 
-returns : tie.Need-returns
-returns c = value-fired _ _ _ _ _ _ _ _ _ _ _ _ _ _ (c .before .before .before .before .before .before .before .before .before .before .before .before .before .before .before .before .pre .0) (c .before .before .before .before .before .before .before .before .fill-value .ensures) (c .before .before .fire .ensures)
+returns-2 : tie.Need-returns-2
+returns-2 c = value-fired _ _ _ _ _ _ _ _ _ _ _ _ _ _ (c .before .before .before .before .before .before .before .before .before .before .before .before .before .before .before .before .before .before .pre .0) (c .before .before .before .before .before .before .before .before .fill-value .ensures) (c .before .before .fire .ensures)
 
 pub fire-value-spec : {M : Type 1} → statement M
 fire-value-spec =
     tie.close
     (tie.spec
+    returns
     fill-value-requires
     sub-fire
     part-fire-start
@@ -41,4 +47,4 @@ fire-value-spec =
     fire-requires
     same-length
     same-length-2
-    returns)
+    returns-2)

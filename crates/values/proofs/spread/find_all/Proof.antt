@@ -1,12 +1,15 @@
 use borrow.Author.Needs.{needs}
 use Prim.Native.Nat.{_-_}
+use native.Mathlib.Omega.{arith}
 use lib.ListN.{length}
 use mathlib.Core.Path.{sym, _∙_}
 use Rattle.values.specs.Cutting.{FreeOfAll}
-use Rattle.values.proofs.Keeping.{free-more, first-here, first-none}
+use Rattle.values.proofs.Keeping.{free-on, first-here, first-none}
 use Rattle.values.proofs.spread.find_all.Statement.{statement}
 use Rattle.values.proofs.spread.find_all.Tie as tie
-use Rattle.values.proofs.spread.begins_all.Reads as begins-all-reads
+use Rattle.values.proofs.spread.find_all.Reads as reads
+use Rattle.values.proofs.spread.find_all.Lts as lts
+use Rattle.values.proofs.spread.closes_all.Reads as closes-all-reads
 use Rattle.values.proofs.spread.pass_colonless.Reads as pass-colonless-reads
 
 abbrev Inv-loop : tie.InvT-loop
@@ -21,20 +24,23 @@ pass-colonless-requires c κs = search needs
 loop-holds : tie.Need-loop-holds Inv-loop μ-loop
 loop-holds c = c .pass-colonless .ensures
 
-begins-all-requires : tie.Need-begins-all-requires Inv-loop μ-loop
-begins-all-requires c κs = search needs
+closes-all-requires : tie.Need-closes-all-requires Inv-loop μ-loop
+closes-all-requires c κs = search needs
 
 returns : tie.Need-returns Inv-loop μ-loop
-returns c = first-here _ _ _ (c .before .before .before .loop .inv) (sym (c .before .begins-all .ensures) ∙ c .if1 .taken)
+returns c = first-here _ _ _ (c .before .before .before .loop .inv) (sym (c .before .closes-all .ensures) ∙ c .if1 .taken)
 
-add-i : tie.Need-add-i Inv-loop μ-loop
-add-i c = search needs
+add-pass-colonless : tie.Need-add-pass-colonless Inv-loop μ-loop
+add-pass-colonless c = search needs
+
+pass-colonless-requires-2 : tie.Need-pass-colonless-requires-2 Inv-loop μ-loop
+pass-colonless-requires-2 c κs = search needs
 
 loop-less : tie.Need-loop-less Inv-loop μ-loop
-loop-less c = search needs
+loop-less c = omega (arith, c .pass-colonless2 .ensures .low)
 
 loop-again : tie.Need-loop-again Inv-loop μ-loop
-loop-again c = free-more _ _ _ (c .before .before .before .loop .inv) (c .before .before .loop-test .taken) (sym (c .before .begins-all .ensures) ∙ c .if1 .left)
+loop-again c = free-on _ _ _ _ (c .before .before .before .before .loop .inv) (c .before .before .before .loop-test .taken) (sym (c .before .before .closes-all .ensures) ∙ c .before .if1 .left) (c .pass-colonless2 .ensures)
 
 returns-2 : tie.Need-returns-2 Inv-loop μ-loop
 returns-2 c = first-none _ _ _ (c .before .loop .inv) (c .loop-test .left)
@@ -47,9 +53,10 @@ find-all-spec =
     μ-loop
     pass-colonless-requires
     loop-holds
-    begins-all-requires
+    closes-all-requires
     returns
-    add-i
+    add-pass-colonless
+    pass-colonless-requires-2
     loop-less
     loop-again
     returns-2)

@@ -1,26 +1,13 @@
 use borrow.Author.Needs.{needs}
-use Rattle.values.proofs.Copying.{copy-behind, copy-keeps, copy-plus}
+use Rattle.values.proofs.Copying.{copy-keeps, copy-plus}
 use Rattle.values.proofs.spread.put_copy.Statement.{statement}
 use Rattle.values.proofs.spread.put_copy.Tie as tie
-use Rattle.output.proofs.past.Reads as past-reads
-use Rattle.output.proofs.wide.Reads as wide-reads
-use Rattle.values.proofs.spread.copy_length.Reads as copy-length-reads
+use Rattle.values.proofs.spread.put_copy.Reads as reads
+use Rattle.values.proofs.spread.put_copy.Lts as lts
 use Rattle.values.proofs.spread.keeps.Reads as keeps-reads
 use Rattle.values.proofs.spread.put_end.Reads as put-end-reads
 use Rattle.values.proofs.write.put_byte.Reads as put-byte-reads
 use Rattle.values.proofs.write.put_text.Reads as put-text-reads
-
-wide-requires : tie.Need-wide-requires
-wide-requires c κs = search needs
-
-copy-length-requires : tie.Need-copy-length-requires
-copy-length-requires c κs = search needs
-
-past-requires : tie.Need-past-requires
-past-requires c κs = search needs
-
-returns : tie.Need-returns
-returns c = copy-behind _ _ _ _ _ _ _ (c .before .before .before .wide .ensures .0) (c .before .before .if1 .taken) (c .before .copy-length .ensures) (c .past .ensures)
 
 keeps-requires : tie.Need-keeps-requires
 keeps-requires c κs = search needs
@@ -34,8 +21,8 @@ put-end-requires c κs = search needs
 same-length : tie.Need-same-length
 same-length c = search needs
 
-returns-2 : tie.Need-returns-2
-returns-2 c = copy-keeps _ _ _ _ _ _ _ _ (c .before .before .before .before .before .before .before .before .before .before .before .before .before .before .pre .1) _ (c .before .before .before .before .before .before .before .before .before .keeps .ensures) (c .before .before .before .before .before .before .before .before .if2 .taken) (c .before .before .before .before .before .before .put-text .ensures) (c .before .before .put-end .ensures)
+returns : tie.Need-returns
+returns c = copy-keeps _ _ _ _ _ _ _ _ (c .before .before .before .before .before .before .before .before .before .before .before .before .pre .1) _ (c .before .before .before .before .before .before .before .before .before .keeps .ensures) (c .before .before .before .before .before .before .before .before .if1 .taken) (c .before .before .before .before .before .before .put-text .ensures) (c .before .before .put-end .ensures)
 
 put-byte-requires : tie.Need-put-byte-requires
 put-byte-requires c κs = search needs
@@ -49,24 +36,20 @@ put-end-requires-2 c κs = search needs
 same-length-2 : tie.Need-same-length-2
 same-length-2 c = search needs
 
-returns-3 : tie.Need-returns-3
-returns-3 c = copy-plus _ _ _ _ _ _ _ _ (c .before .before .before .before .before .before .before .before .before .before .before .before .before .before .before .before .before .before .pre .1) _ _ _ (c .before .before .before .before .before .before .before .before .before .before .before .before .before .keeps .ensures) (c .before .before .before .before .before .before .before .before .before .before .before .before .if2 .left) (c .before .before .before .before .before .before .before .before .before .before .put-byte .ensures) (c .before .before .before .before .before .before .put-text2 .ensures) (c .before .before .put-end2 .ensures)
+returns-2 : tie.Need-returns-2
+returns-2 c = copy-plus _ _ _ _ _ _ _ _ (c .before .before .before .before .before .before .before .before .before .before .before .before .before .before .before .before .pre .1) _ _ _ (c .before .before .before .before .before .before .before .before .before .before .before .before .before .keeps .ensures) (c .before .before .before .before .before .before .before .before .before .before .before .before .if1 .left) (c .before .before .before .before .before .before .before .before .before .before .put-byte .ensures) (c .before .before .before .before .before .before .put-text2 .ensures) (c .before .before .put-end2 .ensures)
 
 pub put-copy-spec : {M : Type 1} → statement M
 put-copy-spec =
     tie.close
     (tie.spec
-    wide-requires
-    copy-length-requires
-    past-requires
-    returns
     keeps-requires
     put-text-requires
     put-end-requires
     same-length
-    returns-2
+    returns
     put-byte-requires
     put-text-requires-2
     put-end-requires-2
     same-length-2
-    returns-3)
+    returns-2)

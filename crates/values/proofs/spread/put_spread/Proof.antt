@@ -5,7 +5,7 @@ use mathlib.Core.Path.{_∙_}
 use lib.ListN.{length}
 use Rattle.text.specs.Bytes.{part}
 use Rattle.values.proofs.Writes.{wrote-farthest}
-use Rattle.values.proofs.Copying.{Spreading, spreading-start, spreading-end, spreading-copies, spreading-more}
+use Rattle.values.proofs.Copying.{Spreading, spreading-start, spreading-end, spreading-copies, spreading-more, part-short}
 use Rattle.values.proofs.spread.put_spread.Statement.{statement}
 use Rattle.values.proofs.spread.put_spread.Tie as tie
 use Rattle.values.proofs.spread.next_cut.Reads as next-cut-reads
@@ -19,10 +19,10 @@ abbrev μ-loop : tie.MeasureT-loop
 μ-loop t n out₀ at i₀ o₀ out i o = length t - i
 
 returns : tie.Need-returns Inv-loop μ-loop
-returns c = wrote-farthest _ _ _ (c .before .before .before .pre .1) (c .before .before .before .pre .2) (c .if1 .taken)
+returns c = wrote-farthest _ _ _ (c .before .before .before .pre .2) (c .before .before .before .pre .3) (c .if1 .taken)
 
 loop-holds : tie.Need-loop-holds Inv-loop μ-loop
-loop-holds c = spreading-start _ _ _ _ (c .before .before .before .pre .1) (c .before .before .before .pre .2)
+loop-holds c = spreading-start _ _ _ _ (c .before .before .before .pre .2) (c .before .before .before .pre .3)
 
 next-cut-requires : tie.Need-next-cut-requires Inv-loop μ-loop
 next-cut-requires c κs = search needs
@@ -49,9 +49,6 @@ returns-2 c = spreading-end _ _ _ _ _ _ _ (c .before .before .before .before .be
 sub-put-copies : tie.Need-sub-put-copies Inv-loop μ-loop
 sub-put-copies c = omega (arith, c .before .before .before .before .before .before .next-cut .ensures .long (c .if2 .left))
 
-sub-put-copies-2 : tie.Need-sub-put-copies-2 Inv-loop μ-loop
-sub-put-copies-2 c = omega (arith, c .before .before .before .before .before .before .next-cut .ensures .long (c .if2 .left))
-
 part-put-copies-start : tie.Need-part-put-copies-start Inv-loop μ-loop
 part-put-copies-start c = omega (arith, c .before .before .before .before .before .before .next-cut .ensures .long (c .if2 .left))
 
@@ -60,7 +57,10 @@ part-put-copies-end c = omega (arith, c .before .before .before .before .before 
 
 put-copies-requires : tie.Need-put-copies-requires Inv-loop μ-loop
 unfolding part
-put-copies-requires c κs = let w = spreading-copies _ _ _ _ _ _ _ (c .before .before .before .before .before .before .before .before .before .loop .inv) _ (c .before .before .before .before .before .before .before .before .next-cut .ensures) _ _ (c .before .before .before .before .before .put-kept .ensures) (c .before .before .if2 .left) in (c .before .before .before .before .before .before .before .before .before .before .before .before .before .pre .0, omega (arith, w .long, c .before .before .before .before .before .before .before .before .before .before .before .before .before .pre .1), w .low)
+put-copies-requires c κs = let w = spreading-copies _ _ _ _ _ _ _ (c .before .before .before .before .before .before .before .before .before .loop .inv) _ (c .before .before .before .before .before .before .before .before .next-cut .ensures) _ _ (c .before .before .before .before .before .put-kept .ensures) (c .before .before .if2 .left) in (c .before .before .before .before .before .before .before .before .before .before .before .before .before .pre .0, part-short (c .before .before .before .before .before .before .before .before .before .before .before .before .before .args .t .now) (c .before .before .before .before .before .before .before .before .next-cut .result .start) (c .before .before .before .before .before .before .before .before .next-cut .result .all) (c .before .before .before .before .before .before .before .before .before .before .before .before .before .pre .1), omega (arith, w .long, c .before .before .before .before .before .before .before .before .before .before .before .before .before .pre .2), w .low)
+
+add-i : tie.Need-add-i Inv-loop μ-loop
+add-i c = omega (arith, c .before .before .before .before .before .before .before .before .before .before .before .next-cut .ensures .inside (c .before .before .before .before .before .if2 .left))
 
 loop-less : tie.Need-loop-less Inv-loop μ-loop
 loop-less c = omega (arith, c .before .before .before .before .before .before .before .before .before .before .before .next-cut .ensures .low, c .before .before .before .before .before .before .before .before .before .before .before .next-cut .ensures .long (c .before .before .before .before .before .if2 .left), c .before .before .before .before .before .if2 .left)
@@ -85,9 +85,9 @@ put-spread-spec =
     same-length
     returns-2
     sub-put-copies
-    sub-put-copies-2
     part-put-copies-start
     part-put-copies-end
     put-copies-requires
+    add-i
     loop-less
     loop-again)
