@@ -15,7 +15,7 @@ use values::spread::put_spread;
 
 // Writes a value at the position of region r, which moves on.
 fn put_at(t: &[u8], n: usize, r: usize, buf: &mut [u8], q: Cursors) -> Cursors
-    requires { ⌜ (n < 10) × (length (now t) ≤ farthest) × (length (now buf) ≤ farthest) × (r < 10) × Low (q .at) × (q .total ≤ longestTotal) ⌝ }
+    requires { ⌜ (1 ≤ n) × (n < 10) × (length (now t) ≤ farthest) × (length (now buf) ≤ farthest) × (r < 10) × Low (q .at) × (q .total ≤ longestTotal) ⌝ }
     ensures { λ m. ⌜ PutAt (now (buf .entry)) (now (buf .exit)) q m r (concatMap (spread n) (cuts (now (t .entry)))) ⌝ }
 {
     let from = q.at[r];

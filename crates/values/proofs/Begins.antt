@@ -10,8 +10,8 @@ use Rattle.text.specs.Bytes.{Text, bytes, same, empty, first, concatMap}
 use Rattle.text.proofs.Lists.{same-eq}
 use Rattle.rules.specs.Headings.{decimal}
 use Rattle.values.specs.Spread.{isSign, signed, cuts, endsAll, stem, copy, copies, spread}
-use Rattle.values.specs.Cutting.{upto, beyond}
-use Rattle.values.proofs.Cuts.{cuts-piece, cuts-none}
+use Rattle.values.specs.Cutting.{upto}
+use Rattle.values.proofs.Cuts.{beyond, cuts-piece, cuts-none}
 use Rattle.values.proofs.Copying.{spread-nil}
 
 -- a text that begins with b

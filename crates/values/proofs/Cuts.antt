@@ -10,7 +10,12 @@ use Rattle.text.proofs.Comparing.{drop-at}
 use Rattle.text.proofs.Positions.{part-empty, part-snoc, part-cons}
 use Rattle.profile.specs.Profile.{push}
 use Rattle.values.specs.Spread.{isSign, cuts}
-use Rattle.values.specs.Cutting.{upto, beyond, InCut}
+use Rattle.values.specs.Cutting.{upto}
+
+-- the text from the first sign on
+unfoldable pub beyond : Text → Text
+beyond [] = []
+beyond (b ∷ r) = let u = beyond r in cond (isSign b) (b ∷ r) u
 
 -- the cuts behind the first
 unfoldable pub later : Text → List Text
@@ -92,6 +97,13 @@ beyond-starts (b ∷ r) = go (isSign b) refl (beyond-starts r)
     go : (t : Bool) → isSign b ≡ t → upto (beyond r) ≡ [] → upto (cond t (b ∷ r) (beyond r)) ≡ []
     go true e h = upto-sign b r e
     go false e h = h
+
+-- no sign stands from `from` up to i
+pub record InCut (t : Text) (from i : ℕ) : Type 0 where
+  pub low : from ≤ i
+  pub high : i ≤ length t
+  pub piece : upto (drop from t) ≡ part t from i ++ upto (drop i t)
+  pub rest : beyond (drop from t) ≡ beyond (drop i t)
 
 -- no sign stands from `from` up to e, and at e one stands or the text ends
 pub record CutEnd (t : Text) (from e : ℕ) : Type 0 where

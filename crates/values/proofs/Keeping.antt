@@ -6,19 +6,20 @@ use mathlib.Core.List.{List, [], _∷_, _++_, append-assoc, append-nil}
 use mathlib.Core.Bool.{Bool, true, false, cond}
 use lib.ListN.{length, take, drop, getD, length-append, length-take, length-drop, take-append-drop, drop-of-length-le, List·getD-append}
 use lib.Seq.{drop-length, drop-append-le, drop-append-seam, take-append-seam, drop-drop, take-add, getD-drop}
-use lib.Dec.{eqb, ltb}
-use borrow.Author.Tests.{eqb-true, eqb-false, ltb-true, ltb-false}
+use lib.Dec.{eqb, ltb, leb}
+use borrow.Author.Tests.{eqb-true, eqb-false, ltb-true, ltb-false, le-leb, lt-leb}
 use Rattle.text.specs.Bytes.{Text, bytes, same, part, concatMap}
 use Rattle.text.proofs.Comparing.{drop-at}
-use Rattle.text.proofs.Lists.{no, same-eq}
+use Rattle.text.proofs.Lists.{no, or-right, same-eq}
 use Rattle.text.proofs.Positions.{part-empty, part-cons}
 use Rattle.lookup.proofs.Ranking.{below-or}
+use Rattle.rules.specs.Headings.{decimal}
+use Rattle.rules.proofs.Pieces.{tail-whole}
 use Rattle.profile.specs.Profile.{push}
-use Rattle.values.specs.declared.Cut.{Cut}
 use Rattle.values.specs.Spread.{isSign, cuts, endsAll, stem, copies, spread}
-use Rattle.values.specs.Cutting.{upto, beyond, InCut, closesAll, FreeOfAll, FirstAll, PieceStart, NextCut}
-use Rattle.values.proofs.Cuts.{later, cuts-first, first-cut, upto-sign, upto-other, upto-nil, beyond-other, upto-beyond, beyond-starts, CutEnd, in-cut-start, in-cut-more, in-cut-end, cut-at, cut-over}
-use Rattle.values.proofs.Copying.{all-long, ends-long, spread-nil}
+use Rattle.values.specs.Cutting.{upto, closesAll, FreeOfAll, FirstAll, ToColon, startOf, moreCopies}
+use Rattle.values.proofs.Cuts.{beyond, InCut, later, cuts-first, first-cut, upto-sign, upto-other, upto-nil, beyond-other, upto-beyond, beyond-starts, CutEnd, in-cut-start, in-cut-more, in-cut-end, cut-at, cut-over}
+use Rattle.values.proofs.Copying.{all-long, ends-long, first-copy, spread-nil}
 
 signless : (k : ℕ) → k < 4 → isSign (getD (bytes ":all") k 0) ≡ false
 unfolding isSign bytes
@@ -124,6 +125,21 @@ module _ (n : ℕ) where
           let z : i + (p - i) ≡ p = omega arith in
           ap (λ (x : Text). take (p - i) (drop i t) ++ x) (sym (drop-drop (p - i) i t ∙ ap (λ (k : ℕ). drop k t) z)) ∙ take-append-drop (p - i) (drop i t)
 
+-- no sign stands in a piece one byte longer
+in-cut-back : (t : Text) (c p : ℕ) → c < length t → p + 1 ≤ c → isSign (getD t (suc p) 0) ≡ false → InCut t (suc p + 1) (c + 1) → InCut t (p + 1) (c + 1)
+in-cut-back t c p m h e v =
+    let z : suc p ≡ p + 1 = omega arith in
+    let e′ = rw z at e in
+    let v′ = rw z at v in
+    let l : p + 1 < length t = omega arith in
+    record {
+      low = omega arith;
+      high = omega arith;
+      piece =
+          rw (drop-at t (p + 1) l, upto-other (getD t (p + 1) 0) (drop (p + 1 + 1) t) e′, part-cons t (p + 1) (c + 1) (omega arith) (omega arith)) (ap (λ (x : Text). getD t (p + 1) 0 ∷ x) (v′ .piece));
+      rest = rw (drop-at t (p + 1) l) (beyond-other (getD t (p + 1) 0) (drop (p + 1 + 1) t) e′ ∙ v′ .rest);
+    }
+
 -- parts
 
 part-join : (t : Text) (a b c : ℕ) → a ≤ b → b ≤ c → part t a b ++ part t b c ≡ part t a c
@@ -132,6 +148,10 @@ part-join t a b c l m =
     let z : a + (b - a) ≡ b = omega arith in
     let y : b - a + (c - b) ≡ c - a = omega arith in
     sym (ap (λ (k : ℕ). take k (drop a t)) (sym y) ∙ (take-add (b - a) (c - b) (drop a t) ∙ ap (λ (x : Text). take (b - a) (drop a t) ++ take (c - b) x) (drop-drop (b - a) a t ∙ ap (λ (k : ℕ). drop k t) z)))
+
+all-bytes : (z : Text) → 58 ∷ 97 ∷ 108 ∷ 108 ∷ z ≡ bytes ":all" ++ z
+unfolding bytes
+all-bytes z = refl
 
 all-taken : (z : Text) → take 4 (bytes ":all" ++ z) ≡ bytes ":all"
 unfolding bytes
@@ -153,157 +173,246 @@ module _ (r : Text) (h : closesAll r ≡ true) where
   closes-byte : (k : ℕ) → k < 4 → getD r k 0 ≡ getD (bytes ":all") k 0
   closes-byte k m = ap (λ (x : Text). getD x k 0) closes-is ∙ List·getD-append (bytes ":all") (beyond r) 0 k (omega (arith, all-long))
 
+closes-not : (r : Text) → (closesAll r ≡ true → ⊥) → false ≡ closesAll r
+closes-not r n = go (closesAll r) refl
+  where
+    go : (b : Bool) → closesAll r ≡ b → false ≡ closesAll r
+    go true e = absurd (n e)
+    go false e = sym e
+
 -- the ways out of `closes_all`
 module _ (t : Text) (i : ℕ) where
-  closes-not : (closesAll (drop i t) ≡ true → ⊥) → false ≡ closesAll (drop i t)
-  closes-not n = go (closesAll (drop i t)) refl
-    where
-      go : (b : Bool) → closesAll (drop i t) ≡ b → false ≡ closesAll (drop i t)
-      go true e = absurd (n e)
-      go false e = sym e
-
-  pub closes-short : length t - i < 4 → false ≡ closesAll (drop i t)
-  closes-short h = closes-not (λ e. omega (arith, closes-long (drop i t) e, length-drop i t))
-
   pub closes-other : (k : ℕ) → k < 4 → (getD t (i + k) 0 ≡ getD (bytes ":all") k 0 → ⊥) → false ≡ closesAll (drop i t)
-  closes-other k m h = closes-not (λ e. h (sym (getD-drop i t k 0) ∙ closes-byte (drop i t) e k m))
+  closes-other k m h = closes-not (drop i t) (λ e. h (sym (getD-drop i t k 0) ∙ closes-byte (drop i t) e k m))
 
-  module _ (l : i + 4 ≤ length t) (a : getD t i 0 ≡ 58) (b : getD t (i + 1) 0 ≡ 97) (c : getD t (i + 2) 0 ≡ 108) (d : getD t (i + 3) 0 ≡ 108) where
-    stands : drop i t ≡ bytes ":all" ++ drop (i + 4) t
-    unfolding bytes
-    stands =
-        let z₂ : i + 1 + 1 ≡ i + 2 = omega arith in
-        let z₃ : i + 2 + 1 ≡ i + 3 = omega arith in
-        let z₄ : i + 3 + 1 ≡ i + 4 = omega arith in
-        rw (drop-at t i (omega arith), a, drop-at t (i + 1) (omega arith), b, z₂, drop-at t (i + 2) (omega arith), c, z₃, drop-at t (i + 3) (omega arith), d, z₄)
+  pub closes-first : (getD t i 0 ≡ 58 → ⊥) → false ≡ closesAll (drop i t)
+  unfolding bytes
+  closes-first h = let z : i + 0 ≡ i = omega arith in closes-other 0 (omega arith) (λ e. h (rw z at e))
 
-    pub closes-end : length t - i ≡ 4 → true ≡ closesAll (drop i t)
-    closes-end e =
-        let z : length t ≤ i + 4 = omega arith in
-        rw stands (sym (all-closes (drop (i + 4) t) (ap upto (drop-of-length-le t z) ∙ upto-nil)))
+  pub closes-sign : i + 4 < length t → getD t i 0 ≡ 58 → getD t (i + 1) 0 ≡ 97 → getD t (i + 2) 0 ≡ 108 → getD t (i + 3) 0 ≡ 108 →
+      (r : Bool) → r ≡ isSign (getD t (i + 4) 0) → r ≡ closesAll (drop i t)
+  closes-sign l a b c d r e = e ∙ rw stands (go (isSign (getD t (i + 4) 0)) refl)
+    where
+      four : drop (i + 4) t ≡ getD t (i + 4) 0 ∷ drop (i + 4 + 1) t
+      four = drop-at t (i + 4) l
 
-    pub closes-sign : (r : Bool) → i + 4 < length t → r ≡ isSign (getD t (i + 4) 0) → r ≡ closesAll (drop i t)
-    closes-sign r m e = e ∙ rw stands (go (isSign (getD t (i + 4) 0)) refl)
-      where
-        at-four : drop (i + 4) t ≡ getD t (i + 4) 0 ∷ drop (i + 4 + 1) t
-        at-four = drop-at t (i + 4) m
+      stands : drop i t ≡ bytes ":all" ++ drop (i + 4) t
+      stands =
+          let z₂ : i + 1 + 1 ≡ i + 2 = omega arith in
+          let z₃ : i + 2 + 1 ≡ i + 3 = omega arith in
+          let z₄ : i + 3 + 1 ≡ i + 4 = omega arith in
+          rw (drop-at t i (omega arith), a, drop-at t (i + 1) (omega arith), b, z₂, drop-at t (i + 2) (omega arith), c, z₃, drop-at t (i + 3) (omega arith), d, z₄)
+          (all-bytes (drop (i + 4) t))
 
-        other : isSign (getD t (i + 4) 0) ≡ false → closesAll (bytes ":all" ++ drop (i + 4) t) ≡ false
-        other u = rw at-four (all-goes-on (getD t (i + 4) 0) (drop (i + 4 + 1) t) u)
+      go : (x : Bool) → isSign (getD t (i + 4) 0) ≡ x → isSign (getD t (i + 4) 0) ≡ closesAll (bytes ":all" ++ drop (i + 4) t)
+      go true u = u ∙ sym (all-closes (drop (i + 4) t) (ap upto four ∙ upto-sign (getD t (i + 4) 0) (drop (i + 4 + 1) t) u))
+      go false u = u ∙ sym (rw four (all-goes-on (getD t (i + 4) 0) (drop (i + 4 + 1) t) u))
 
-        go : (x : Bool) → isSign (getD t (i + 4) 0) ≡ x → isSign (getD t (i + 4) 0) ≡ closesAll (bytes ":all" ++ drop (i + 4) t)
-        go true u = u ∙ sym (all-closes (drop (i + 4) t) (ap upto at-four ∙ upto-sign (getD t (i + 4) 0) (drop (i + 4 + 1) t) u))
-        go false u = u ∙ sym (other u)
-
-pub closes-first : (t : Text) (i : ℕ) → (getD t i 0 ≡ 58 → ⊥) → false ≡ closesAll (drop i t)
-unfolding bytes
-closes-first t i h = let z : i + 0 ≡ i = omega arith in closes-other t i 0 (omega arith) (λ e. h (rw z at e))
+closes-short : (t : Text) (i : ℕ) → length t - i < 4 → closesAll (drop i t) ≡ false
+closes-short t i h = sym (closes-not (drop i t) (λ e. omega (arith, closes-long (drop i t) e, length-drop i t)))
 
 all-signless : (t : Text) (c : ℕ) → closesAll (drop c t) ≡ true → (k : ℕ) → k < 4 → isSign (getD t (c + k) 0) ≡ false
 all-signless t c h k m = ap isSign (sym (getD-drop c t k 0) ∙ closes-byte (drop c t) h k m) ∙ signless k m
 
--- the loops of `pass_colonless` and `find_all`
+nothing : (x : Text) → length x ≡ 0 → x ≡ []
+nothing [] h = refl
+nothing (b ∷ x) h = absurd (omega arith)
+
 pub free-start : (t : Text) (from : ℕ) → from ≤ length t → FreeOfAll t from from
 free-start t from h = record { low = omega arith; high = h; free = λ k a b. absurd (omega arith) }
 
-module _ (t : Text) (from i : ℕ) (v : FreeOfAll t from i) (h : i < length t) where
-  pub free-more : closesAll (drop i t) ≡ false → FreeOfAll t from (i + 1)
-  free-more e = record { low = omega (arith, v .low); high = omega arith; free = λ k a b. by k a b (eqb k i) refl }
-    where
-      by : (k : ℕ) → from ≤ k → k < i + 1 → (u : Bool) → eqb k i ≡ u → closesAll (drop k t) ≡ false
-      by k a b true q = let c : k ≡ i = eqb-true k i q in rw c e
-      by k a b false q = v .free k a (below-or k i (omega arith) (eqb-false k i q))
+-- the loop of `to_colon`: no colon stands from `from` up to i
+pub record Colonless (t : Text) (from i : ℕ) : Type 0 where
+  pub low : from ≤ i
+  pub high : i ≤ length t
+  pub plain : (k : ℕ) → from ≤ k → k < i → getD t k 0 ≡ 58 → ⊥
 
-  pub free-plain : (getD t i 0 ≡ 58 → ⊥) → FreeOfAll t from (i + 1)
-  free-plain n = free-more (sym (closes-first t i n))
+pub plain-start : (t : Text) (from : ℕ) → from ≤ length t → Colonless t from from
+plain-start t from h = record { low = omega arith; high = h; plain = λ k a b. absurd (omega arith) }
 
-free-next : (t : Text) (from i j : ℕ) → i + 1 ≡ j → FreeOfAll t from i → i < length t → (getD t i 0 ≡ 58 → ⊥) → FreeOfAll t from j
-free-next t from i j e v h n = rw e at (free-plain t from i v h n)
+pub plain-more : (t : Text) (from i j : ℕ) → i + 1 ≡ j → i < length t → Colonless t from i → (getD t i 0 ≡ 58 → ⊥) → Colonless t from j
+plain-more t from i j z l v n = record { low = omega (arith, v .low); high = omega arith; plain = λ k a b. by k a (omega arith) (eqb k i) refl }
+  where
+    by : (k : ℕ) → from ≤ k → k < i + 1 → (u : Bool) → eqb k i ≡ u → getD t k 0 ≡ 58 → ⊥
+    by k a b true q = let c : k ≡ i = eqb-true k i q in λ e. n (rw c at e)
+    by k a b false q = v .plain k a (below-or k i (omega arith) (eqb-false k i q))
 
-module _ (t : Text) (from i : ℕ) (v : FreeOfAll t from i) (h : i + 3 < length t) where
-  pub free-one : (getD t i 0 ≡ 58 → ⊥) → FreeOfAll t from (i + 1)
-  free-one a = free-next t from i (i + 1) refl v (omega arith) a
+pub colon-at : (t : Text) (from i : ℕ) → Colonless t from i → getD t i 0 ≡ 58 → ToColon t from i
+colon-at t from i v e = record { low = v .low; high = v .high; plain = v .plain; colon = λ h. e }
 
-  pub free-two : (getD t i 0 ≡ 58 → ⊥) → (getD t (i + 1) 0 ≡ 58 → ⊥) → FreeOfAll t from (i + 2)
-  free-two a b = free-next t from (i + 1) (i + 2) (omega arith) (free-one a) (omega arith) b
+pub colon-none : (t : Text) (from i : ℕ) → Colonless t from i → length t ≤ i + 3 → ToColon t from i
+colon-none t from i v l = record { low = v .low; high = v .high; plain = v .plain; colon = λ h. absurd (omega arith) }
 
-  pub free-three : (getD t i 0 ≡ 58 → ⊥) → (getD t (i + 1) 0 ≡ 58 → ⊥) → (getD t (i + 2) 0 ≡ 58 → ⊥) → FreeOfAll t from (i + 3)
-  free-three a b c = free-next t from (i + 2) (i + 3) (omega arith) (free-two a b) (omega arith) c
+pub free-to : (t : Text) (from i : ℕ) → ToColon t from i → FreeOfAll t from i
+free-to t from i v = record { low = v .low; high = v .high; free = λ k a b. sym (closes-first t k (v .plain k a b)) }
 
-  pub free-four : (getD t i 0 ≡ 58 → ⊥) → (getD t (i + 1) 0 ≡ 58 → ⊥) → (getD t (i + 2) 0 ≡ 58 → ⊥) → (getD t (i + 3) 0 ≡ 58 → ⊥) → FreeOfAll t from (i + 4)
-  free-four a b c d = free-next t from (i + 3) (i + 4) (omega arith) (free-three a b c) (omega arith) d
+pub free-more : (t : Text) (from i j : ℕ) → FreeOfAll t from i → closesAll (drop i t) ≡ false → ToColon t (i + 1) j → FreeOfAll t from j
+free-more t from i j v e w =
+    record { low = omega (arith, v .low, w .low); high = w .high; free = λ k a b. by k a b (ltb k i) refl }
+  where
+    behind : (k : ℕ) → i ≤ k → k < j → (u : Bool) → eqb k i ≡ u → closesAll (drop k t) ≡ false
+    behind k a b true q = let c : k ≡ i = eqb-true k i q in rw c e
+    behind k a b false q =
+        let d : (k ≡ i → ⊥) = eqb-false k i q in
+        let m : i < k = below-or i k a (λ z. d (sym z)) in
+        sym (closes-first t k (w .plain k (omega arith) b))
+
+    by : (k : ℕ) → from ≤ k → k < j → (u : Bool) → ltb k i ≡ u → closesAll (drop k t) ≡ false
+    by k a b true q = v .free k a (ltb-true k i q)
+    by k a b false q = behind k (ltb-false k i q) b (eqb k i) refl
+
+-- the loop of `find_all`: where there is room for `:all` and a sign, a colon stands at i
+pub record Finding (t : Text) (from i : ℕ) : Type 0 where
+  pub free : FreeOfAll t from i
+  pub colon : i + 3 < length t → getD t i 0 ≡ 58
+
+pub finding-start : (t : Text) (from i : ℕ) → ToColon t from i → Finding t from i
+finding-start t from i v = record { free = free-to t from i v; colon = v .colon }
+
+pub finding-more : (t : Text) (from i j : ℕ) → Finding t from i → closesAll (drop i t) ≡ false → ToColon t (i + 1) j → Finding t from j
+finding-more t from i j v e w = record { free = free-more t from i j (v .free) e w; colon = w .colon }
 
 pub first-here : (t : Text) (from i : ℕ) → FreeOfAll t from i → closesAll (drop i t) ≡ true → FirstAll t from i
 first-here t from i v e = record { free = v; here = λ h. e }
 
-pub first-none : (t : Text) (from i : ℕ) → FreeOfAll t from i → length t ≤ i → FirstAll t from i
-first-none t from i v h = record { free = v; here = λ l. absurd (omega arith) }
+-- the ways out of `last_all`, and what they mean for the whole text
+module _ (t : Text) (from : ℕ) (h : from ≤ length t) where
+  pub last-short : length t - from < 4 → FirstAll t from (length t)
+  last-short l =
+      record {
+        free = record { low = h; high = omega arith; free = λ k a b. closes-short t k (omega arith) };
+        here = λ z. absurd (omega arith);
+      }
 
--- the loop of `piece_start`: behind p no sign stands up to c
+  pub last-all : (r : Bool) → length t - from ≡ 4 → r ≡ same (take (length t - from) (drop from t)) (bytes ":all") → r ≡ true → FirstAll t from from
+  last-all r l e q =
+      let w : drop from t ≡ bytes ":all" = sym (tail-whole t from h) ∙ same-eq _ (bytes ":all") (sym e ∙ q) in
+      record {
+        free = free-start t from h;
+        here = λ z. rw w (ap closesAll (sym (append-nil (bytes ":all"))) ∙ all-closes [] upto-nil);
+      }
+
+  pub last-other : (r : Bool) → length t - from ≡ 4 → r ≡ same (take (length t - from) (drop from t)) (bytes ":all") → r ≡ false → FirstAll t from (length t)
+  last-other r l e q =
+      record {
+        free = record { low = h; high = omega arith; free = λ k a b. by k a b (eqb k from) refl };
+        here = λ z. absurd (omega arith);
+      }
+    where
+      other : closesAll (drop from t) ≡ false
+      other =
+          sym (closes-not (drop from t)
+          (λ u.
+          let x = closes-is (drop from t) u in
+          let y : length (beyond (drop from t)) ≡ 0 = omega (arith, ap length x, length-append (bytes ":all") (beyond (drop from t)), all-long, length-drop from t) in
+          let z : drop from t ≡ bytes ":all" = x ∙ (ap (λ (v : Text). bytes ":all" ++ v) (nothing (beyond (drop from t)) y) ∙ append-nil (bytes ":all")) in
+          no (sym q ∙ (e ∙ (ap (λ (v : Text). same v (bytes ":all")) (tail-whole t from h ∙ z) ∙ all-same)))))
+
+      by : (k : ℕ) → from ≤ k → k < length t → (u : Bool) → eqb k from ≡ u → closesAll (drop k t) ≡ false
+      by k a b true c = let d : k ≡ from = eqb-true k from c in rw d other
+      by k a b false c =
+          let d : (k ≡ from → ⊥) = eqb-false k from c in
+          let m : from < k = below-or from k a (λ z. d (sym z)) in
+          closes-short t k (omega arith)
+
+pub first-last : (t : Text) (from i c : ℕ) → FreeOfAll t from i → FirstAll t i c → FirstAll t from c
+first-last t from i c v w =
+    record {
+      free = record { low = omega (arith, v .low, w .free .low); high = w .free .high; free = λ k a b. by k a b (ltb k i) refl };
+      here = w .here;
+    }
+  where
+    by : (k : ℕ) → from ≤ k → k < c → (u : Bool) → ltb k i ≡ u → closesAll (drop k t) ≡ false
+    by k a b true q = v .free k a (ltb-true k i q)
+    by k a b false q = w .free .free k (ltb-false k i q) b
+
+-- the piece that the place c stands in starts at p, not before `from`: there, or at a sign
+record PieceStart (t : Text) (from c p : ℕ) : Type 0 where
+  low : from ≤ p
+  high : p ≤ c
+  sign : from < p → isSign (getD t p 0) ≡ true
+  inside : InCut t (p + 1) (c + 1)
+
+-- the loop of `piece_start`
+start-sign : (t : Text) (from p : ℕ) → from < p → isSign (getD t p 0) ≡ true → startOf t from p ≡ p
+unfolding startOf
+start-sign t from zero h e = refl
+start-sign t from (suc p) h e = rw e
+
+start-end : (t : Text) (from p : ℕ) → p ≤ from → startOf t from p ≡ p
+unfolding startOf
+start-end t from zero h = refl
+start-end t from (suc p) h = rw (or-right (isSign (getD t (suc p) 0)) (leb (suc p) from) (le-leb (suc p) from h))
+
+start-more : (t : Text) (from p : ℕ) → from < p → isSign (getD t p 0) ≡ false → startOf t from p ≡ startOf t from (p - 1)
+unfolding startOf
+start-more t from zero h e = absurd (omega arith)
+start-more t from (suc p) h e = let z : suc p - 1 ≡ p = omega arith in rw (e, lt-leb (suc p) from h, z)
+
 pub record Backing (t : Text) (from c p : ℕ) : Type 0 where
   pub low : from ≤ p
   pub high : p ≤ c
-  pub inside : InCut t (p + 1) (c + 1)
+  pub same : startOf t from c ≡ startOf t from p
 
-module _ (t : Text) (from c : ℕ) (m : c < length t) where
-  pub backing-start : from ≤ c → Backing t from c c
-  backing-start h = record { low = h; high = omega arith; inside = in-cut-start t (c + 1) (omega arith) }
+pub backing-start : (t : Text) (from c : ℕ) → from ≤ c → Backing t from c c
+backing-start t from c h = record { low = h; high = omega arith; same = refl }
 
-  module _ (p : ℕ) (v : Backing t from c p) where
-    pub backing-more : from < p → isSign (getD t p 0) ≡ false → Backing t from c (p - 1)
-    backing-more h e =
-        let z : p - 1 + 1 ≡ p = omega arith in
-        let l : p < length t = omega (arith, v .high) in
-        record {
-          low = omega arith;
-          high = omega (arith, v .high);
-          inside =
-              rw z
-              (record {
-                low = omega (arith, v .high);
-                high = omega arith;
-                piece =
-                    rw (drop-at t p l, upto-other (getD t p 0) (drop (p + 1) t) e, part-cons t p (c + 1) (omega (arith, v .high)) (omega arith)) (ap (λ (x : Text). getD t p 0 ∷ x) (v .inside .piece));
-                rest = rw (drop-at t p l) (beyond-other (getD t p 0) (drop (p + 1) t) e ∙ v .inside .rest);
-              });
-        }
+module _ (t : Text) (from c p : ℕ) (v : Backing t from c p) where
+  pub backing-more : from < p → isSign (getD t p 0) ≡ false → Backing t from c (p - 1)
+  backing-more h e = record { low = omega arith; high = omega (arith, v .high); same = v .same ∙ start-more t from p h e }
 
-    pub backing-sign : isSign (getD t p 0) ≡ true → PieceStart t from c p
-    backing-sign e = record { low = v .low; high = v .high; sign = λ h. e; inside = v .inside }
+  pub backing-sign : from < p → isSign (getD t p 0) ≡ true → p ≡ startOf t from c
+  backing-sign h e = sym (v .same ∙ start-sign t from p h e)
 
-    pub backing-end : p ≤ from → PieceStart t from c p
-    backing-end h = record { low = v .low; high = v .high; sign = λ l. absurd (omega arith); inside = v .inside }
+  pub backing-end : p ≤ from → p ≡ startOf t from c
+  backing-end h = sym (v .same ∙ start-end t from p h)
 
--- a place behind one where none is closed, and on to where the next colon stands
-pub free-on : (t : Text) (from i j : ℕ) → FreeOfAll t from i → i < length t → closesAll (drop i t) ≡ false → FreeOfAll t (i + 1) j → FreeOfAll t from j
-free-on t from i j v h e w =
-    let u = free-more t from i v h e in
-    record { low = omega (arith, u .low, w .low); high = w .high; free = λ k a b. by k a b (ltb k (i + 1)) refl }
+-- behind p no sign stands up to c
+starts-at : (t : Text) (from c : ℕ) → c < length t → (p : ℕ) → from ≤ p → p ≤ c → InCut t (p + 1) (c + 1) → PieceStart t from c (startOf t from p)
+starts-at t from c m zero l h v = rw (start-end t from 0 (omega arith)) (record { low = l; high = h; sign = λ z. absurd (omega arith); inside = v })
+starts-at t from c m (suc p) l h v = go (ltb from (suc p)) refl (isSign (getD t (suc p) 0)) refl (λ a b w. starts-at t from c m p a b w)
   where
-    by : (k : ℕ) → from ≤ k → k < j → (x : Bool) → ltb k (i + 1) ≡ x → closesAll (drop k t) ≡ false
-    by k a b true q = free-more t from i v h e .free k a (ltb-true k (i + 1) q)
-    by k a b false q = w .free k (ltb-false k (i + 1) q) b
+    go : (x : Bool) → ltb from (suc p) ≡ x → (y : Bool) → isSign (getD t (suc p) 0) ≡ y →
+        (from ≤ p → p ≤ c → InCut t (p + 1) (c + 1) → PieceStart t from c (startOf t from p)) → PieceStart t from c (startOf t from (suc p))
+    go false q y e next =
+        let a : suc p ≤ from = ltb-false from (suc p) q in
+        rw (start-end t from (suc p) a) (record { low = l; high = h; sign = λ z. absurd (omega arith); inside = v })
+    go true q true e next =
+        let a : from < suc p = ltb-true from (suc p) q in
+        rw (start-sign t from (suc p) a e) (record { low = l; high = h; sign = λ z. e; inside = v })
+    go true q false e next =
+        let a : from < suc p = ltb-true from (suc p) q in
+        let z : suc p - 1 ≡ p = omega arith in
+        rw (start-more t from (suc p) a e, z) (next (omega arith) (omega arith) (in-cut-back t c p (omega arith) (omega arith) e v))
 
--- the ways out of `next_cut`
+pub start-low : (t : Text) (from c : ℕ) → from ≤ c → c < length t → (from ≤ startOf t from c) × (startOf t from c ≤ c)
+start-low t from c l m =
+    let b = starts-at t from c m c l (omega arith) (in-cut-start t (c + 1) (omega arith)) in
+    (b .low, b .high)
+
+pub start-inside : (t : Text) (from c s : ℕ) → from ≤ c → c < length t → s ≡ startOf t from c → s ≤ c
+start-inside t from c s l m e = rw e (start-low t from c l m .1)
+
+-- the pieces from a place on, by the next `:all` that ends one
 module _ (t : Text) (from c : ℕ) (f : FirstAll t from c) where
-  pub cut-none : length t ≤ c → NextCut t from (record { start = length t; all = c })
-  cut-none h =
-      record {
-        low = omega (arith, f .free .low, f .free .high);
-        high = omega arith;
-        none = λ l n.
-            run-kept n t from (length t) (omega (arith, f .free .low, f .free .high)) (omega arith) (ap upto (drop-length t) ∙ upto-nil) (λ k a b. f .free .free k a (omega arith))
-            ∙ (ap (λ (x : Text). part t from (length t) ++ x) (cut-over (spread n) t (length t) (spread-nil n) (omega arith)) ∙ append-nil (part t from (length t)));
-        long = λ l. absurd (omega arith);
-        inside = λ l. absurd (omega arith);
-        found = λ l. absurd (omega arith);
-      }
+  pub kept-last : (n : ℕ) → length t ≤ c → concatMap (spread n) (cuts (drop from t)) ≡ part t from c
+  kept-last n h =
+      let z : c ≡ length t = omega (arith, f .free .high) in
+      rw z
+      (run-kept n t from (length t) (omega (arith, f .free .low, f .free .high)) (omega arith) (ap upto (drop-length t) ∙ upto-nil) (λ k a b. f .free .free k a (omega arith))
+      ∙ (ap (λ (x : Text). part t from (length t) ++ x) (cut-over (spread n) t (length t) (spread-nil n) (omega arith)) ∙ append-nil (part t from (length t))))
 
-  module _ (m : c < length t) (p : ℕ) (b : PieceStart t from c p) where
+  module _ (m : c < length t) where
+    abbrev p : ℕ
+    p = startOf t from c
+
+    b : PieceStart t from c p
+    b = starts-at t from c m c (f .free .low) (omega arith) (in-cut-start t (c + 1) (omega arith))
+
     closed : closesAll (drop c t) ≡ true
     closed = f .here m
 
-    long : c + 4 ≤ length t
+    pub long : c + 4 ≤ length t
     long = omega (arith, closes-long (drop c t) closed, length-drop c t)
 
     -- no sign stands in `:all`
@@ -339,17 +448,17 @@ module _ (t : Text) (from c : ℕ) (f : FirstAll t from c) where
         let e : part t c (c + 4) ≡ bytes ":all" = rw z (ap (take 4) (closes-is (drop c t) closed) ∙ all-taken (beyond (drop c t))) in
         sym (part-join t p c (c + 4) (b .high) (omega arith)) ∙ ap (λ (x : Text). part t p c ++ x) e
 
-    pub cut-found : NextCut t from (record { start = p; all = c })
-    cut-found =
-        record {
-          low = b .low;
-          high = omega (arith, b .high);
-          none = λ z. absurd (omega (arith, b .high));
-          long = λ z. b .high;
-          inside = λ z. long;
-          found = λ z n.
-              to-piece n
-              ∙ ap (λ (x : Text). part t from p ++ x)
-              (cut-at (spread n) t p (c + 4) (spread-nil n) (omega (arith, b .high)) whole-piece
-              ∙ ap (λ (x : Text). x ++ concatMap (spread n) (cuts (drop (c + 4) t))) (ap (spread n) stem-all ∙ spread-closed n (part t p c)));
-        }
+    pub kept-copies : (n : ℕ) → 1 ≤ n →
+        concatMap (spread n) (cuts (drop from t)) ≡ part t from c ++ ((58 ∷ decimal 1) ++ (moreCopies n t from c ++ concatMap (spread n) (cuts (drop (c + 4) t))))
+    unfolding moreCopies
+    kept-copies n h =
+        let r = concatMap (spread n) (cuts (drop (c + 4) t)) in
+        let e : copies n 1 (part t p c) ≡ part t p c ++ ((58 ∷ decimal 1) ++ copies (n - 1) 2 (part t p c)) = first-copy n (part t p c) h in
+        to-piece n
+        ∙ (ap (λ (x : Text). part t from p ++ x)
+        (cut-at (spread n) t p (c + 4) (spread-nil n) (omega (arith, b .high)) whole-piece
+        ∙ ap (λ (x : Text). x ++ r) (ap (spread n) stem-all ∙ (spread-closed n (part t p c) ∙ e)))
+        ∙ (ap (λ (x : Text). part t from p ++ x) (append-assoc (part t p c) ((58 ∷ decimal 1) ++ copies (n - 1) 2 (part t p c)) r)
+        ∙ (sym (append-assoc (part t from p) (part t p c) (((58 ∷ decimal 1) ++ copies (n - 1) 2 (part t p c)) ++ r))
+        ∙ (ap (λ (x : Text). x ++ (((58 ∷ decimal 1) ++ copies (n - 1) 2 (part t p c)) ++ r)) (part-join t from p c (b .low) (b .high))
+        ∙ ap (λ (x : Text). part t from c ++ x) (append-assoc (58 ∷ decimal 1) (copies (n - 1) 2 (part t p c)) r)))))

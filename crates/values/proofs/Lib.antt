@@ -7,3 +7,4 @@ pub mod Filling
 pub mod Begins
 pub mod Profiles
 pub mod Keeping
+pub mod Spreading

@@ -1,16 +1,13 @@
 // `:all`: a value cut before its signs, and each piece that ends with `:all` as copies.
 ghost use mathlib.Core.Path.{_≡_};
 ghost use mathlib.Core.List.{_∷_};
-ghost use mathlib.Core.Bool.{_||_};
-ghost use Prim.Native.Nat.{_≤_, _<_};
-ghost use lib.ListN.{length, drop};
-ghost use lib.Dec.{eqb};
+ghost use Prim.Native.Nat.{_+_, _-_, _≤_, _<_};
+ghost use lib.ListN.{length, drop, getD};
 ghost use Rattle.text.specs.Bytes.{concatMap};
 ghost use Rattle.output.specs.Store.{farthest, Wrote};
 ghost use Rattle.rules.specs.Headings.{decimal};
 ghost use Rattle.values.specs.Spread.{isSign, signed, cuts, copy, copies, spread};
-ghost use Rattle.values.specs.Cutting.{closesAll, FreeOfAll, FirstAll, PieceStart, NextCut};
-use super::Cut;
+ghost use Rattle.values.specs.Cutting.{closesAll, FirstAll, ToColon, startOf, moreCopies};
 use super::write;
 
 // Whether a byte is a sign.
@@ -27,16 +24,6 @@ pub fn is_signed(t: &[u8]) -> bool
     is_sign(text::bytes::peek(t, 0))
 }
 
-// Whether the k-th copy of a piece begins as the piece does.
-pub fn keeps(t: &[u8], k: usize) -> bool
-    ensures { λ r. ⌜ r ≡ signed (now (t .entry)) || eqb k 1 ⌝ }
-{
-    if k == 1 {
-        return true;
-    }
-    is_signed(t)
-}
-
 // Writes `:` and a copy's number.
 pub fn put_end(k: usize, out: &mut [u8], at: u32) -> u32
     requires { ⌜ (k < 100) × (length (now out) ≤ farthest) ⌝ }
@@ -46,12 +33,12 @@ pub fn put_end(k: usize, out: &mut [u8], at: u32) -> u32
     write::put_number(k, out, next)
 }
 
-// Writes the k-th copy of a piece, `t` being what stands before its `:all`.
+// Writes the k-th copy of a piece, but not the first; `t` is what stands before its `:all`.
 fn put_copy(t: &[u8], k: usize, out: &mut [u8], at: u32) -> u32
-    requires { ⌜ (k < 100) × (length (now out) ≤ farthest) ⌝ }
+    requires { ⌜ (2 ≤ k) × (k < 100) × (length (now out) ≤ farthest) ⌝ }
     ensures { λ r. ⌜ Wrote (now (out .entry)) (now (out .exit)) at (copy k (now (t .entry))) r ⌝ }
 {
-    if keeps(t, k) {
+    if is_signed(t) {
         let a = write::put_text(t, out, at);
         return put_end(k, out, a);
     }
@@ -60,30 +47,12 @@ fn put_copy(t: &[u8], k: usize, out: &mut [u8], at: u32) -> u32
     put_end(k, out, a)
 }
 
-// How long the copies 1 to n of a piece are together.
-fn copies_length(t: &[u8], n: usize) -> usize
-    requires { ⌜ (n < 10) × (length (now t) ≤ farthest) ⌝ }
-    ensures { λ r. ⌜ r ≡ length (copies n 1 (now (t .entry))) ⌝ }
-{
-    let kept = n * (t.len() + 2);
-    if is_signed(t) {
-        return kept;
-    }
-    if n == 0 {
-        return kept;
-    }
-    kept + n - 1
-}
-
-// Writes the copies 1 to n of a piece. Behind the buffer's end they are counted alone.
+// Writes the copies 2 to n of a piece.
 fn put_copies(t: &[u8], n: usize, out: &mut [u8], at: u32) -> u32
-    requires { ⌜ (n < 10) × (length (now t) ≤ farthest) × (length (now out) ≤ farthest) × (at ≤ farthest) ⌝ }
-    ensures { λ r. ⌜ Wrote (now (out .entry)) (now (out .exit)) at (copies n 1 (now (t .entry))) r ⌝ }
+    requires { ⌜ (1 ≤ n) × (n < 10) × (length (now out) ≤ farthest) × (at ≤ farthest) ⌝ }
+    ensures { λ r. ⌜ Wrote (now (out .entry)) (now (out .exit)) at (copies (n - 1) 2 (now (t .entry))) r ⌝ }
 {
-    if out.len() <= output::wide(at) {
-        return output::past(at, copies_length(t, n));
-    }
-    let mut k: usize = 1;
+    let mut k: usize = 2;
     let mut o: u32 = at;
     while k <= n {
         o = put_copy(t, k, out, o);
@@ -92,36 +61,21 @@ fn put_copies(t: &[u8], n: usize, out: &mut [u8], at: u32) -> u32
     o
 }
 
-// Whether an `:all` begins at i that a piece ends with.
-fn closes_all(t: &[u8], i: usize) -> bool
-    requires { ⌜ i < length (now t) ⌝ }
-    ensures { λ r. ⌜ r ≡ closesAll (drop i (now (t .entry))) ⌝ }
+// How long the copies 2 to n of a piece are together.
+fn copies_length(t: &[u8], n: usize) -> usize
+    requires { ⌜ (1 ≤ n) × (n < 10) × (length (now t) ≤ farthest) ⌝ }
+    ensures { λ r. ⌜ r ≡ length (copies (n - 1) 2 (now (t .entry))) ⌝ }
 {
-    if t[i] != b':' {
-        return false;
+    if is_signed(t) {
+        return (n - 1) * (t.len() + 2);
     }
-    if t.len() - i < 4 {
-        return false;
-    }
-    if t[i + 1] != b'a' {
-        return false;
-    }
-    if t[i + 2] != b'l' {
-        return false;
-    }
-    if t[i + 3] != b'l' {
-        return false;
-    }
-    if t.len() - i == 4 {
-        return true;
-    }
-    is_sign(t[i + 4])
+    (n - 1) * (t.len() + 3)
 }
 
-// A place up to which no colon stands: four bytes a turn.
-fn pass_colonless(t: &[u8], from: usize) -> usize
+// The first colon from `from` on, or where too few bytes are left for `:all`.
+fn to_colon(t: &[u8], from: usize) -> usize
     requires { ⌜ from ≤ length (now t) ⌝ }
-    ensures { λ r. ⌜ FreeOfAll (now (t .entry)) from r ⌝ }
+    ensures { λ r. ⌜ ToColon (now (t .entry)) from r ⌝ }
 {
     let mut i: usize = from;
     while i + 3 < t.len() {
@@ -142,25 +96,56 @@ fn pass_colonless(t: &[u8], from: usize) -> usize
     i
 }
 
+// Whether a piece ends with the `:all` that begins with the colon at i, a sign behind it.
+fn closes_all(t: &[u8], i: usize) -> bool
+    requires { ⌜ (i + 4 < length (now t)) × (getD (now t) i 0 ≡ 58) ⌝ }
+    ensures { λ r. ⌜ r ≡ closesAll (drop i (now (t .entry))) ⌝ }
+{
+    if t[i + 1] != b'a' {
+        return false;
+    }
+    if t[i + 2] != b'l' {
+        return false;
+    }
+    if t[i + 3] != b'l' {
+        return false;
+    }
+    is_sign(t[i + 4])
+}
+
+// Where an `:all` begins in the last four bytes that the text ends with, or the text's end.
+fn last_all(t: &[u8], from: usize) -> usize
+    requires { ⌜ (from ≤ length (now t)) × (length (now t) ≤ from + 4) ⌝ }
+    ensures { λ r. ⌜ FirstAll (now (t .entry)) from r ⌝ }
+{
+    if t.len() - from < 4 {
+        return t.len();
+    }
+    if text::compare::same(&t[from..], b":all") {
+        return from;
+    }
+    t.len()
+}
+
 // The first place from `from` on where an `:all` begins that a piece ends with, or the text's end.
 fn find_all(t: &[u8], from: usize) -> usize
     requires { ⌜ from ≤ length (now t) ⌝ }
     ensures { λ r. ⌜ FirstAll (now (t .entry)) from r ⌝ }
 {
-    let mut i: usize = pass_colonless(t, from);
-    while i < t.len() {
+    let mut i: usize = to_colon(t, from);
+    while i + 4 < t.len() {
         if closes_all(t, i) {
             return i;
         }
-        i = pass_colonless(t, i + 1);
+        i = to_colon(t, i + 1);
     }
-    i
+    last_all(t, i)
 }
 
 // Where the piece starts that the place c stands in: at a sign, or at `from`.
 fn piece_start(t: &[u8], from: usize, c: usize) -> usize
     requires { ⌜ (from ≤ c) × (c < length (now t)) ⌝ }
-    ensures { λ r. ⌜ PieceStart (now (t .entry)) from c r ⌝ }
+    ensures { λ r. ⌜ r ≡ startOf (now (t .entry)) from c ⌝ }
 {
     let mut p = c;
     while from < p {
@@ -172,52 +157,66 @@ fn piece_start(t: &[u8], from: usize, c: usize) -> usize
     p
 }
 
-// The next piece that ends with `:all`, from the start of a piece on, or the text's end.
-fn next_cut(t: &[u8], from: usize) -> Cut
-    requires { ⌜ from ≤ length (now t) ⌝ }
-    ensures { λ r. ⌜ NextCut (now (t .entry)) from r ⌝ }
+// Writes the copies 2 to n of the piece whose `:all` begins at c. It starts at `from` or behind it.
+fn put_more(t: &[u8], from: usize, c: usize, n: usize, out: &mut [u8], at: u32) -> u32
+    requires { ⌜ (from ≤ c) × (c < length (now t)) × (1 ≤ n) × (n < 10) × (length (now out) ≤ farthest) × (at ≤ farthest) ⌝ }
+    ensures { λ r. ⌜ Wrote (now (out .entry)) (now (out .exit)) at (moreCopies n (now (t .entry)) from c) r ⌝ }
 {
-    let all = find_all(t, from);
-    if t.len() <= all {
-        return Cut {
-            start: t.len(),
-            all,
-        };
-    }
-    let start = piece_start(t, from, all);
-    Cut { start, all }
-}
-
-// Writes what stays as it is, which is often nothing.
-fn put_kept(t: &[u8], out: &mut [u8], at: u32) -> u32
-    requires { ⌜ at ≤ farthest ⌝ }
-    ensures { λ r. ⌜ Wrote (now (out .entry)) (now (out .exit)) at (now (t .entry)) r ⌝ }
-{
-    if t.len() == 0 {
+    if n < 2 {
         return at;
     }
-    write::put_text(t, out, at)
+    let start = piece_start(t, from, c);
+    put_copies(&t[start..c], n, out, at)
 }
 
-// Writes a filled value with its `:all` spread over n layouts. At the farthest position nothing is written any more, and none is gone on to.
+// How long they are together.
+fn more_length(t: &[u8], from: usize, c: usize, n: usize) -> usize
+    requires { ⌜ (from ≤ c) × (c < length (now t)) × (1 ≤ n) × (n < 10) × (length (now t) ≤ farthest) ⌝ }
+    ensures { λ r. ⌜ r ≡ length (moreCopies n (now (t .entry)) from c) ⌝ }
+{
+    if n < 2 {
+        return 0;
+    }
+    let start = piece_start(t, from, c);
+    copies_length(&t[start..c], n)
+}
+
+// How long a filled value is with its `:all` spread over n layouts.
+fn spread_length(t: &[u8], n: usize) -> usize
+    requires { ⌜ (1 ≤ n) × (n < 10) × (length (now t) ≤ farthest) ⌝ }
+    ensures { λ r. ⌜ r ≡ length (concatMap (spread n) (cuts (now (t .entry)))) ⌝ }
+{
+    let mut i: usize = 0;
+    let mut m: usize = 0;
+    loop {
+        let c = find_all(t, i);
+        if t.len() <= c {
+            return m + (c - i);
+        }
+        m = m + (c - i) + 2 + more_length(t, i, c, n);
+        i = c + 4;
+    }
+}
+
+// Writes a filled value with its `:all` spread over n layouts. The first copy of a piece stands as the piece does, but for its end. Behind the buffer's end all is
+// counted alone.
 pub fn put_spread(t: &[u8], n: usize, out: &mut [u8], at: u32) -> u32
-    requires { ⌜ (n < 10) × (length (now t) ≤ farthest) × (length (now out) ≤ farthest) × (at ≤ farthest) ⌝ }
+    requires { ⌜ (1 ≤ n) × (n < 10) × (length (now t) ≤ farthest) × (length (now out) ≤ farthest) × (at ≤ farthest) ⌝ }
     ensures { λ r. ⌜ Wrote (now (out .entry)) (now (out .exit)) at (concatMap (spread n) (cuts (now (t .entry)))) r ⌝ }
 {
-    if 1058817 <= at {
-        return at;
+    if out.len() <= output::wide(at) {
+        return output::past(at, spread_length(t, n));
     }
     let mut i: usize = 0;
     let mut o: u32 = at;
     loop {
-        let x = next_cut(t, i);
-        let start = x.start;
-        o = put_kept(&t[i..start], out, o);
-        if t.len() <= start {
+        let c = find_all(t, i);
+        o = write::put_text(&t[i..c], out, o);
+        if t.len() <= c {
             return o;
         }
-        let all = x.all;
-        o = put_copies(&t[start..all], n, out, o);
-        i = all + 4;
+        o = put_end(1, out, o);
+        o = put_more(t, i, c, n, out, o);
+        i = c + 4;
     }
 }

@@ -15,7 +15,7 @@ element-copy-out-from : tie.Need-element-copy-out-from
 element-copy-out-from c = search needs
 
 put-spread-requires : tie.Need-put-spread-requires
-put-spread-requires c κs = (c .before .before .before .before .pre .0, c .before .before .before .before .pre .1, c .before .before .before .before .pre .2, low-at _ _ (c .before .before .before .before .pre .4))
+put-spread-requires c κs = (c .before .before .before .before .pre .0, c .before .before .before .before .pre .1, c .before .before .before .before .pre .2, c .before .before .before .before .pre .3, low-at _ _ (c .before .before .before .before .pre .5))
 
 mul-next : tie.Need-mul-next
 mul-next c = search needs
@@ -24,10 +24,10 @@ element-write-next : tie.Need-element-write-next
 element-write-next c = search needs
 
 sub-next : tie.Need-sub-next
-sub-next c = moves-on _ _ _ _ _ (low-at _ _ (c .before .before .before .before .before .before .before .pre .4)) (c .before .before .put-spread .ensures) .0
+sub-next c = moves-on _ _ _ _ _ (low-at _ _ (c .before .before .before .before .before .before .before .pre .5)) (c .before .before .put-spread .ensures) .0
 
 add-next : tie.Need-add-next
-add-next c = omega (arith, moves-on _ _ _ _ _ (low-at _ _ (c .before .before .before .before .before .before .before .pre .4)) (c .before .before .put-spread .ensures) .1, c .before .before .before .before .before .before .before .pre .5)
+add-next c = omega (arith, moves-on _ _ _ _ _ (low-at _ _ (c .before .before .before .before .before .before .before .pre .5)) (c .before .before .put-spread .ensures) .1, c .before .before .before .before .before .before .before .pre .6)
 
 same-length : tie.Need-same-length
 same-length c = search needs

@@ -1,14 +1,11 @@
 use borrow.Author.Needs.{needs}
-use Prim.Native.Nat.{_+_, _-_}
 use native.Mathlib.Omega.{arith}
-use Rattle.values.proofs.Copying.{copies-behind, Copying, copying-start, copying-more, copying-end}
+use Prim.Native.Nat.{_+_, _-_}
+use Rattle.values.proofs.Copying.{Copying, copying-start, copying-more, copying-end}
 use Rattle.values.proofs.spread.put_copies.Statement.{statement}
 use Rattle.values.proofs.spread.put_copies.Tie as tie
 use Rattle.values.proofs.spread.put_copies.Reads as reads
 use Rattle.values.proofs.spread.put_copies.Lts as lts
-use Rattle.output.proofs.past.Reads as past-reads
-use Rattle.output.proofs.wide.Reads as wide-reads
-use Rattle.values.proofs.spread.copies_length.Reads as copies-length-reads
 use Rattle.values.proofs.spread.put_copy.Reads as put-copy-reads
 
 abbrev Inv-loop : tie.InvT-loop
@@ -17,23 +14,11 @@ Inv-loop t n out₀ at k₀ o₀ out k o = Copying t n out₀ out at k o
 abbrev μ-loop : tie.MeasureT-loop
 μ-loop t n out₀ at k₀ o₀ out k o = n + 1 - k
 
-wide-requires : tie.Need-wide-requires Inv-loop μ-loop
-wide-requires c κs = search needs
-
-copies-length-requires : tie.Need-copies-length-requires Inv-loop μ-loop
-copies-length-requires c κs = search needs
-
-past-requires : tie.Need-past-requires Inv-loop μ-loop
-past-requires c κs = search needs
-
-returns : tie.Need-returns Inv-loop μ-loop
-returns c = copies-behind _ _ _ _ _ _ _ (c .before .before .before .wide .ensures .0) (c .before .before .if1 .taken) (c .before .copies-length .ensures) (c .past .ensures)
-
 loop-holds : tie.Need-loop-holds Inv-loop μ-loop
-loop-holds c = copying-start _ _ _ _ (c .before .before .before .before .pre .2) (c .before .before .before .before .pre .3)
+loop-holds c = copying-start _ _ _ _ (c .before .before .pre .0) (c .before .before .pre .2) (c .before .before .pre .3)
 
 put-copy-requires : tie.Need-put-copy-requires Inv-loop μ-loop
-put-copy-requires c κs = (omega (arith, c .before .before .before .before .before .before .before .pre .0), omega (arith, c .before .before .loop .inv .left .long, c .before .before .before .before .before .before .before .pre .2))
+put-copy-requires c κs = (c .before .before .loop .inv .some, omega (arith, c .before .before .before .before .before .pre .1), omega (arith, c .before .before .loop .inv .left .long, c .before .before .before .before .before .pre .2))
 
 add-k : tie.Need-add-k Inv-loop μ-loop
 add-k c = search needs
@@ -47,8 +32,8 @@ loop-again c = copying-more _ _ _ _ _ _ _ (c .before .before .before .before .be
 same-length : tie.Need-same-length Inv-loop μ-loop
 same-length c = c .before .loop .inv .left .long
 
-returns-2 : tie.Need-returns-2 Inv-loop μ-loop
-returns-2 c = copying-end _ _ _ _ _ _ _ (c .before .loop .inv) (c .loop-test .left)
+returns : tie.Need-returns Inv-loop μ-loop
+returns c = copying-end _ _ _ _ _ _ _ (c .before .loop .inv) (c .loop-test .left)
 
 pub put-copies-spec : {M : Type 1} → statement M
 put-copies-spec =
@@ -56,14 +41,10 @@ put-copies-spec =
     (tie.spec
     Inv-loop
     μ-loop
-    wide-requires
-    copies-length-requires
-    past-requires
-    returns
     loop-holds
     put-copy-requires
     add-k
     loop-less
     loop-again
     same-length
-    returns-2)
+    returns)

@@ -4,13 +4,13 @@ use Rattle.values.proofs.spread.put_copy.Statement.{statement}
 use Rattle.values.proofs.spread.put_copy.Tie as tie
 use Rattle.values.proofs.spread.put_copy.Reads as reads
 use Rattle.values.proofs.spread.put_copy.Lts as lts
-use Rattle.values.proofs.spread.keeps.Reads as keeps-reads
+use Rattle.values.proofs.spread.is_signed.Reads as is-signed-reads
 use Rattle.values.proofs.spread.put_end.Reads as put-end-reads
 use Rattle.values.proofs.write.put_byte.Reads as put-byte-reads
 use Rattle.values.proofs.write.put_text.Reads as put-text-reads
 
-keeps-requires : tie.Need-keeps-requires
-keeps-requires c κs = search needs
+is-signed-requires : tie.Need-is-signed-requires
+is-signed-requires c κs = search needs
 
 put-text-requires : tie.Need-put-text-requires
 put-text-requires c κs = search needs
@@ -22,7 +22,7 @@ same-length : tie.Need-same-length
 same-length c = search needs
 
 returns : tie.Need-returns
-returns c = copy-keeps _ _ _ _ _ _ _ _ (c .before .before .before .before .before .before .before .before .before .before .before .before .pre .1) _ (c .before .before .before .before .before .before .before .before .before .keeps .ensures) (c .before .before .before .before .before .before .before .before .if1 .taken) (c .before .before .before .before .before .before .put-text .ensures) (c .before .before .put-end .ensures)
+returns c = copy-keeps _ _ _ _ _ _ _ _ (c .before .before .before .before .before .before .before .before .before .before .before .before .pre .0) (c .before .before .before .before .before .before .before .before .before .before .before .before .pre .2) _ (c .before .before .before .before .before .before .before .before .before .is-signed .ensures) (c .before .before .before .before .before .before .before .before .if1 .taken) (c .before .before .before .before .before .before .put-text .ensures) (c .before .before .put-end .ensures)
 
 put-byte-requires : tie.Need-put-byte-requires
 put-byte-requires c κs = search needs
@@ -37,13 +37,13 @@ same-length-2 : tie.Need-same-length-2
 same-length-2 c = search needs
 
 returns-2 : tie.Need-returns-2
-returns-2 c = copy-plus _ _ _ _ _ _ _ _ (c .before .before .before .before .before .before .before .before .before .before .before .before .before .before .before .before .pre .1) _ _ _ (c .before .before .before .before .before .before .before .before .before .before .before .before .before .keeps .ensures) (c .before .before .before .before .before .before .before .before .before .before .before .before .if1 .left) (c .before .before .before .before .before .before .before .before .before .before .put-byte .ensures) (c .before .before .before .before .before .before .put-text2 .ensures) (c .before .before .put-end2 .ensures)
+returns-2 c = copy-plus _ _ _ _ _ _ _ _ (c .before .before .before .before .before .before .before .before .before .before .before .before .before .before .before .before .pre .0) (c .before .before .before .before .before .before .before .before .before .before .before .before .before .before .before .before .pre .2) _ _ _ (c .before .before .before .before .before .before .before .before .before .before .before .before .before .is-signed .ensures) (c .before .before .before .before .before .before .before .before .before .before .before .before .if1 .left) (c .before .before .before .before .before .before .before .before .before .before .put-byte .ensures) (c .before .before .before .before .before .before .put-text2 .ensures) (c .before .before .put-end2 .ensures)
 
 pub put-copy-spec : {M : Type 1} → statement M
 put-copy-spec =
     tie.close
     (tie.spec
-    keeps-requires
+    is-signed-requires
     put-text-requires
     put-end-requires
     same-length

@@ -1,16 +1,21 @@
 use borrow.Author.Needs.{needs}
-use Prim.Native.Nat.{_-_}
 use native.Mathlib.Omega.{arith}
+use Prim.Native.Nat.{_-_}
 use mathlib.Core.Path.{_∙_}
 use lib.ListN.{length}
 use Rattle.text.specs.Bytes.{part}
-use Rattle.values.proofs.Writes.{wrote-farthest}
-use Rattle.values.proofs.Copying.{Spreading, spreading-start, spreading-end, spreading-copies, spreading-more, part-short}
+use Rattle.values.proofs.Spreading.{Spreading, spreading-start, spreading-end, spreading-first, spreading-copies, spreading-more, spread-behind}
 use Rattle.values.proofs.spread.put_spread.Statement.{statement}
 use Rattle.values.proofs.spread.put_spread.Tie as tie
-use Rattle.values.proofs.spread.next_cut.Reads as next-cut-reads
-use Rattle.values.proofs.spread.put_copies.Reads as put-copies-reads
-use Rattle.values.proofs.spread.put_kept.Reads as put-kept-reads
+use Rattle.values.proofs.spread.put_spread.Reads as reads
+use Rattle.values.proofs.spread.put_spread.Lts as lts
+use Rattle.output.proofs.past.Reads as past-reads
+use Rattle.output.proofs.wide.Reads as wide-reads
+use Rattle.values.proofs.spread.find_all.Reads as find-all-reads
+use Rattle.values.proofs.spread.put_end.Reads as put-end-reads
+use Rattle.values.proofs.write.put_text.Reads as put-text-reads
+use Rattle.values.proofs.spread.put_more.Reads as put-more-reads
+use Rattle.values.proofs.spread.spread_length.Reads as spread-length-reads
 
 abbrev Inv-loop : tie.InvT-loop
 Inv-loop t n out₀ at i₀ o₀ out i o = Spreading t n out₀ out at i o
@@ -18,56 +23,60 @@ Inv-loop t n out₀ at i₀ o₀ out i o = Spreading t n out₀ out at i o
 abbrev μ-loop : tie.MeasureT-loop
 μ-loop t n out₀ at i₀ o₀ out i o = length t - i
 
+wide-requires : tie.Need-wide-requires Inv-loop μ-loop
+wide-requires c κs = search needs
+
+spread-length-requires : tie.Need-spread-length-requires Inv-loop μ-loop
+spread-length-requires c κs = search needs
+
+past-requires : tie.Need-past-requires Inv-loop μ-loop
+past-requires c κs = search needs
+
 returns : tie.Need-returns Inv-loop μ-loop
-returns c = wrote-farthest _ _ _ (c .before .before .before .pre .2) (c .before .before .before .pre .3) (c .if1 .taken)
+returns c = spread-behind _ _ _ _ _ _ _ (c .before .before .before .wide .ensures .0) (c .before .before .if1 .taken) (c .before .spread-length .ensures) (c .past .ensures)
 
 loop-holds : tie.Need-loop-holds Inv-loop μ-loop
-loop-holds c = spreading-start _ _ _ _ (c .before .before .before .pre .2) (c .before .before .before .pre .3)
+loop-holds c = spreading-start _ _ _ _ (c .before .before .before .before .pre .3) (c .before .before .before .before .pre .4)
 
-next-cut-requires : tie.Need-next-cut-requires Inv-loop μ-loop
-next-cut-requires c κs = search needs
+find-all-requires : tie.Need-find-all-requires Inv-loop μ-loop
+find-all-requires c κs = search needs
 
-sub-put-kept : tie.Need-sub-put-kept Inv-loop μ-loop
-sub-put-kept c = c .next-cut .ensures .low
+sub-put-text : tie.Need-sub-put-text Inv-loop μ-loop
+sub-put-text c = c .find-all .ensures .free .low
 
-part-put-kept-start : tie.Need-part-put-kept-start Inv-loop μ-loop
-part-put-kept-start c = c .next-cut .ensures .low
+part-put-text-start : tie.Need-part-put-text-start Inv-loop μ-loop
+part-put-text-start c = c .find-all .ensures .free .low
 
-part-put-kept-end : tie.Need-part-put-kept-end Inv-loop μ-loop
-part-put-kept-end c = c .next-cut .ensures .high
+part-put-text-end : tie.Need-part-put-text-end Inv-loop μ-loop
+part-put-text-end c = c .find-all .ensures .free .high
 
-put-kept-requires : tie.Need-put-kept-requires Inv-loop μ-loop
-put-kept-requires c κs = c .before .before .before .loop .inv .left .low
+put-text-requires : tie.Need-put-text-requires Inv-loop μ-loop
+put-text-requires c κs = search needs
 
 same-length : tie.Need-same-length Inv-loop μ-loop
-same-length c = c .before .before .before .put-kept .kept .1 .0 ∙ c .before .before .before .before .before .before .before .loop .inv .left .long
+same-length c = c .before .before .before .put-text .kept .1 .0 ∙ c .before .before .before .before .before .before .before .loop .inv .left .long
 
 returns-2 : tie.Need-returns-2 Inv-loop μ-loop
 unfolding part
-returns-2 c = spreading-end _ _ _ _ _ _ _ (c .before .before .before .before .before .before .before .loop .inv) _ (c .before .before .before .before .before .before .next-cut .ensures) _ _ (c .before .before .before .put-kept .ensures) (c .if2 .taken)
+returns-2 c = spreading-end _ _ _ _ _ _ _ (c .before .before .before .before .before .before .before .loop .inv) _ (c .before .before .before .before .before .before .find-all .ensures) _ _ (c .before .before .before .put-text .ensures) (c .if2 .taken)
 
-sub-put-copies : tie.Need-sub-put-copies Inv-loop μ-loop
-sub-put-copies c = omega (arith, c .before .before .before .before .before .before .next-cut .ensures .long (c .if2 .left))
-
-part-put-copies-start : tie.Need-part-put-copies-start Inv-loop μ-loop
-part-put-copies-start c = omega (arith, c .before .before .before .before .before .before .next-cut .ensures .long (c .if2 .left))
-
-part-put-copies-end : tie.Need-part-put-copies-end Inv-loop μ-loop
-part-put-copies-end c = omega (arith, c .before .before .before .before .before .before .next-cut .ensures .inside (c .if2 .left))
-
-put-copies-requires : tie.Need-put-copies-requires Inv-loop μ-loop
+put-end-requires : tie.Need-put-end-requires Inv-loop μ-loop
 unfolding part
-put-copies-requires c κs = let w = spreading-copies _ _ _ _ _ _ _ (c .before .before .before .before .before .before .before .before .before .loop .inv) _ (c .before .before .before .before .before .before .before .before .next-cut .ensures) _ _ (c .before .before .before .before .before .put-kept .ensures) (c .before .before .if2 .left) in (c .before .before .before .before .before .before .before .before .before .before .before .before .before .pre .0, part-short (c .before .before .before .before .before .before .before .before .before .before .before .before .before .args .t .now) (c .before .before .before .before .before .before .before .before .next-cut .result .start) (c .before .before .before .before .before .before .before .before .next-cut .result .all) (c .before .before .before .before .before .before .before .before .before .before .before .before .before .pre .1), omega (arith, w .long, c .before .before .before .before .before .before .before .before .before .before .before .before .before .pre .2), w .low)
+put-end-requires c κs = let w = spreading-first _ _ _ _ _ _ _ (c .before .before .before .before .before .before .before .before .loop .inv) _ (c .before .before .before .before .before .before .before .find-all .ensures) _ _ (c .before .before .before .before .put-text .ensures) (c .before .if2 .left) (c .before .before .before .before .before .before .before .before .before .before .before .before .before .pre .0) in (omega arith, omega (arith, w .long, c .before .before .before .before .before .before .before .before .before .before .before .before .before .pre .3))
+
+put-more-requires : tie.Need-put-more-requires Inv-loop μ-loop
+unfolding part
+put-more-requires c κs = let w = spreading-copies _ _ _ _ _ _ _ (c .before .before .before .before .before .before .before .before .before .before .before .before .loop .inv) _ (c .before .before .before .before .before .before .before .before .before .before .before .find-all .ensures) _ _ (c .before .before .before .before .before .before .before .before .put-text .ensures) (c .before .before .before .before .before .if2 .left) (c .before .before .before .before .before .before .before .before .before .before .before .before .before .before .before .before .before .pre .0) _ _ (c .before .before .before .put-end .ensures) in (c .before .before .before .before .before .before .before .before .before .before .before .find-all .ensures .free .low, c .before .before .before .before .before .if2 .left, c .before .before .before .before .before .before .before .before .before .before .before .before .before .before .before .before .before .pre .0, c .before .before .before .before .before .before .before .before .before .before .before .before .before .before .before .before .before .pre .1, omega (arith, w .long, c .before .before .before .before .before .before .before .before .before .before .before .before .before .before .before .before .before .pre .3), w .low)
 
 add-i : tie.Need-add-i Inv-loop μ-loop
-add-i c = omega (arith, c .before .before .before .before .before .before .before .before .before .before .before .next-cut .ensures .inside (c .before .before .before .before .before .if2 .left))
+add-i c = omega (arith, c .before .before .before .before .before .before .before .before .before .before .before .before .before .before .find-all .ensures .free .high, c .before .before .before .before .before .before .before .before .before .before .before .before .before .before .before .before .before .before .before .before .pre .2)
 
 loop-less : tie.Need-loop-less Inv-loop μ-loop
-loop-less c = omega (arith, c .before .before .before .before .before .before .before .before .before .before .before .next-cut .ensures .low, c .before .before .before .before .before .before .before .before .before .before .before .next-cut .ensures .long (c .before .before .before .before .before .if2 .left), c .before .before .before .before .before .if2 .left)
+loop-less c = omega (arith, c .before .before .before .before .before .before .before .before .before .before .before .before .before .before .find-all .ensures .free .low, c .before .before .before .before .before .before .before .before .if2 .left)
 
 loop-again : tie.Need-loop-again Inv-loop μ-loop
 unfolding part
-loop-again c = spreading-more _ _ _ _ _ _ _ (c .before .before .before .before .before .before .before .before .before .before .before .before .loop .inv) _ (c .before .before .before .before .before .before .before .before .before .before .before .next-cut .ensures) _ _ (c .before .before .before .before .before .before .before .before .put-kept .ensures) (c .before .before .before .before .before .if2 .left) _ _ (c .before .before .put-copies .ensures)
+loop-again c = spreading-more _ _ _ _ _ _ _ (c .before .before .before .before .before .before .before .before .before .before .before .before .before .before .before .loop .inv) _ (c .before .before .before .before .before .before .before .before .before .before .before .before .before .before .find-all .ensures) _ _ (c .before .before .before .before .before .before .before .before .before .before .before .put-text .ensures) (c .before .before .before .before .before .before .before .before .if2 .left) (c .before .before .before .before .before .before .before .before .before .before .before .before .before .before .before .before .before .before .before .before .pre .0) _ _ (c .before .before .before .before .before .before .put-end .ensures) _ _ (c .before .before .put-more .ensures)
 
 pub put-spread-spec : {M : Type 1} → statement M
 put-spread-spec =
@@ -75,19 +84,20 @@ put-spread-spec =
     (tie.spec
     Inv-loop
     μ-loop
+    wide-requires
+    spread-length-requires
+    past-requires
     returns
     loop-holds
-    next-cut-requires
-    sub-put-kept
-    part-put-kept-start
-    part-put-kept-end
-    put-kept-requires
+    find-all-requires
+    sub-put-text
+    part-put-text-start
+    part-put-text-end
+    put-text-requires
     same-length
     returns-2
-    sub-put-copies
-    part-put-copies-start
-    part-put-copies-end
-    put-copies-requires
+    put-end-requires
+    put-more-requires
     add-i
     loop-less
     loop-again)
