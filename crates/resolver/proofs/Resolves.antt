@@ -23,6 +23,7 @@ use Rattle.rules.specs.declared.Checked.{Checked}
 use Rattle.rules.specs.Checking.{Checks}
 use Rattle.rules.specs.Faults.{lineFaults, fileRefusals}
 use Rattle.resolver.specs.Heads.{AllHeads, StagedListed}
+use Rattle.resolver.specs.declared.ListedAnswer.{ListedAnswer}
 use Rattle.rules.proofs.Numbers.{file-numbers}
 use Rattle.values.specs.Filling.{Short}
 use Rattle.answers.specs.declared.Outcome.{Outcome}
@@ -136,11 +137,10 @@ pub heads-listed : (f t u : Text) (r : Checked) → Checks f t u r → r .refusa
 heads-listed f t u r v z = record { heads = v .heads; all = v .all z }
 
 module _ (room : ℕ) (f : Text) (t : Texts) (d u : Text) where
-  pub listed-refused : (x : Outcome) (r : Refusal) → x ≡ outcome (refused r) → (r .number ≡ 0 → ⊥) → outcome (refused r) ≡ outcome (answer room f t) →
-      StagedListed room f t d u (record { outcome = x; heads = 0 })
+  pub listed-refused : (x : ListedAnswer) (r : Refusal) → x ≡ record { outcome = outcome (refused r); heads = 0 } → (r .number ≡ 0 → ⊥) →
+      outcome (refused r) ≡ outcome (answer room f t) → StagedListed room f t d u x
   unfolding outcome numberOf
-  listed-refused x r e h g =
-      record { staged = staged-refused room f t d x r e h g; heads = λ z. absurd (h (sym (ap (λ (y : Outcome). y .number) e) ∙ z)) }
+  listed-refused x r e h g = rw e (record { staged = staged-refused room f t d (outcome (refused r)) r refl h g; heads = λ z. absurd (h z) })
 
   pub listed-accepted : (d₀ : Text) (x : Outcome) → x ≡ outcome (answer room f t) → x .lengths ≡ map length (tenTexts f t) → length d₀ ≡ stageSize →
       d ≡ runBuf d₀ (startingAt regions) (fileFirings f (profileOf t)) → (n : ℕ) → AllHeads f u n → StagedListed room f t d u (record { outcome = x; heads = n })

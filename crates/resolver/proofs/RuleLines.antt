@@ -34,7 +34,7 @@ use Rattle.matching.specs.Left.{LeftSide}
 use Rattle.matching.proofs.HeldHeadings.{columns-length}
 use Rattle.matching.proofs.LeftLoops.{some-left}
 use Rattle.resolver.specs.declared.RuleRun.{RuleRun}
-use Rattle.resolver.specs.Running.{firingsFrom, FiredLine, RanLine, NextHeading}
+use Rattle.resolver.specs.Running.{firingsFrom, FiredLine, PassedRule, RanLine, NextHeading}
 use Rattle.resolver.proofs.LineFirings.{nextFirings, firings-line}
 use Rattle.resolver.proofs.SetRuns.{clean-rest}
 use Rattle.resolver.proofs.SetLoops.{right-told, rule-any}
@@ -104,9 +104,9 @@ module _ (s : Text) (from n : ℕ) (h : SetHeading) (sized : SetSized h) (look :
   onward : (at l : ℕ) → Passed s (x .at) (x .line) at l → Passed s from n at l
   onward at l w = passing-then s from n (x .at) (x .line) (record { low = v .low; high = v .high; few = v .few; onto = v .onto }) at l w
 
-  pub ran-past : (at l : ℕ) (d : Text) (q : Cursors) → x .matched ≡ false → Passed s (x .at) (x .line) at l →
-      RanLine look p (headingBy h) s from n d d q k (record { fired = false; at = at; line = l; cursors = q })
-  ran-past at l d q e w = record { hit = λ t. absurd (no t); miss = λ t. (v .miss e, refl, refl); passed = onward at l w }
+  pub ran-past : (d : Text) (q : Cursors) (r : RuleRun) → x .matched ≡ false → PassedRule s (x .at) (x .line) q r → RanLine look p (headingBy h) s from n d d q k r
+  ran-past d q r e w =
+      record { hit = λ t. absurd (no (sym (w .told) ∙ t)); miss = λ t. (v .miss e, refl, w .cursors); passed = onward (r .at) (r .line) (w .passed) }
 
   module _ (e : x .matched ≡ true) where
     -- behind the left words stand as many words as the heading asks

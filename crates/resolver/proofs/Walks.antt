@@ -25,7 +25,7 @@ use Rattle.rules.specs.Sets.{Holds, IsSet}
 use Rattle.rules.specs.Faults.{Groups}
 use Rattle.rules.specs.Splitting.{wordsOf, IsSplit}
 use Rattle.lookup.specs.Names.{namesAt}
-use Rattle.rules.specs.Checking.{lineOf, formOf, lineFault, presentOf, checkFrom, IsKind, Ready, leftFaults, Onward}
+use Rattle.rules.specs.Checking.{lineOf, presentBy, lineFault, presentOf, checkFrom, IsKind, Ready, leftFaults, Onward}
 use Rattle.rules.proofs.Fresh.{as-none}
 use Rattle.rules.proofs.CheckSteps.{check-cons, entry-any, left-is, line-read, line-high, line-few, step-set}
 use Rattle.firing.specs.declared.Cursors.{Cursors}
@@ -132,9 +132,9 @@ module _ (pr : Profile) (s t u : Text) (p : Progress) (q : Cursors) (d : Text) (
     set-from = rw (held .index, index-is (before (wordsOf (drop from s))) (map componentOf (after (wordsOf (drop from s))))) (index-from-one (before (wordsOf (drop from s))))
 
     -- the heading as it is carried on
-    pub set-present : (f : ℕ) → f ≡ formOf (hd .index) → record { form = f; left = hd .left; right = hd .right } ≡ presentOf (y .heading)
+    pub set-present : presentBy hd ≡ presentOf (y .heading)
     unfolding presentOf
-    set-present f e = rw (fine .1, e, held .index, held .left, held .right) refl
+    set-present = rw (fine .1, held .index, held .left, held .right) refl
 
     of-kind : IsKind (wordsOf x) (entryOf (lineOf 0 h (wordsOf x))) (kind.Set (presentOf (y .heading)))
     unfolding IsKind presentOf

@@ -78,6 +78,12 @@ pub record FiredLine (p : Profile) (cs : List ℕ) (s : Text) (from n : ℕ) (d 
   pub fires : FiredRule p d d′ q (r .cursors) k cs (drop 1 (left s from))
   pub passed : Passed s from n (r .at) (r .line)
 
+-- a rule's line from `from` on, passed over
+pub record PassedRule (s : Text) (from n : ℕ) (q : Cursors) (r : RuleRun) : Type 0 where
+  pub told : r .fired ≡ false
+  pub cursors : r .cursors ≡ q
+  pub passed : Passed s from n (r .at) (r .line)
+
 -- a line that is no heading, run at the layout k: it fires if its left words match
 pub record RanLine (look : Text → Words) (p : Profile) (h : Heading) (s : Text) (from n : ℕ) (d d′ : Text) (q : Cursors) (k : ℕ) (r : RuleRun) : Type 0 where
   pub hit : r .fired ≡ true → (leftMatches look p k (h .columns) (left s from) ≡ true) × FiredRule p d d′ q (r .cursors) k (h .components) (rightWords h (left s from))
@@ -94,6 +100,14 @@ pub record NextHeading (s : Text) (at n : ℕ) (r : HeadingAt) : Type 0 where
   pub clean : (ns : List Text) (h : Present) → checkFrom ns h (follow s at n) ≡ [] → checkFrom ns h (follow s (r .start) (r .number)) ≡ []
   pub opens : r .found ≡ true → (r .start < length s) × Opens s (r .start) (r .number) true (r .at) (r .line)
   pub none : r .found ≡ false → length s ≤ r .start
+
+-- the walk at a heading that was found
+abbrev pub onto : Walk → HeadingAt → Walk
+onto w r =
+    record {
+      progress = record { at = r .start; line = r .number; groups = w .progress .groups; present = w .progress .present; fault = 0; heading = false };
+      cursors = w .cursors;
+    }
 
 -- the first word of a line from `from` on, in the physical line n: it begins with `$`, or the line has no such word
 pub record FirstWordAt (s : Text) (from n : ℕ) (r : FirstWord) : Type 0 where

@@ -29,13 +29,16 @@ use text::Refusal;
 use text::reader::fence_of;
 use text::table::TABLE;
 
-fn refused(r: Refusal) -> Outcome
-    ensures { λ a. ⌜ a ≡ outcome (refusedAt r) ⌝ }
+fn refused(r: Refusal) -> ListedAnswer
+    ensures { λ a. ⌜ a ≡ record { outcome = outcome (refusedAt r); heads = 0 } ⌝ }
 {
-    Outcome {
-        number: r.number,
-        place: r.place,
-        lengths: [0; 10],
+    ListedAnswer {
+        outcome: Outcome {
+            number: r.number,
+            place: r.place,
+            lengths: [0; 10],
+        },
+        heads: 0,
     }
 }
 
@@ -124,19 +127,13 @@ fn staged(
 {
     let p = profile::check(model, layouts, variants, options);
     if p.number != 0 {
-        return ListedAnswer {
-            outcome: refused(p),
-            heads: 0,
-        };
+        return refused(p);
     }
     let mut names: [usize; 192] = [0; 192];
     let c = check_file(s, &mut names, heads);
     let f = c.refusal;
     if f.number != 0 {
-        return ListedAnswer {
-            outcome: refused(f),
-            heads: 0,
-        };
+        return refused(f);
     }
     let starts = REGIONS;
     let ends = fire_file(
@@ -153,13 +150,10 @@ fn staged(
     let lengths = lengths_between(starts, ends);
     let sums = places(lengths);
     if no_room(room, sums.total) {
-        return ListedAnswer {
-            outcome: refused(Refusal {
-                number: 11,
-                place: 0,
-            }),
-            heads: 0,
-        };
+        return refused(Refusal {
+            number: 11,
+            place: 0,
+        });
     }
     ListedAnswer {
         outcome: Outcome {

@@ -19,7 +19,7 @@ ghost use Rattle.answers.specs.Layouts.{perLayout};
 ghost use Rattle.answers.specs.Matching.{members};
 ghost use Rattle.firing.specs.Writing.{Low, ShortWords};
 ghost use Rattle.matching.specs.Held.{headingBy, SetSized};
-ghost use Rattle.resolver.specs.Running.{FiredLine, RanLine, FiredSet, FiredRange, FiredHeading};
+ghost use Rattle.resolver.specs.Running.{FiredLine, PassedRule, RanLine, FiredSet, FiredRange, FiredHeading};
 ghost use Rattle.matching.specs.Ranges.{FromOne};
 use super::RuleRun;
 use firing::Cursors;
@@ -91,6 +91,20 @@ fn fire_line(
     }
 }
 
+// A rule whose left words don't match: the rest of its line is passed over.
+fn pass_rule(s: &[u8], t: &[u8; 512], fence: usize, from: usize, line: usize, q: Cursors) -> RuleRun
+    requires { ⌜ Within (now s) (now t) fence from line ⌝ }
+    ensures { λ r. ⌜ PassedRule (now (s .entry)) from line q r ⌝ }
+{
+    let e = pass_line(s, t, fence, from, line);
+    RuleRun {
+        fired: false,
+        at: e.at,
+        line: e.line,
+        cursors: q,
+    }
+}
+
 // A line of a set from its first word on, at the layout k: it fires if its left words match. `layout` and `variant` are those of the layout k.
 fn run_line(
     s: &[u8],
@@ -152,13 +166,7 @@ fn run_line(
         listed,
     );
     if !x.matched {
-        let e = pass_line(s, t, fence, x.at, x.line);
-        return RuleRun {
-            fired: false,
-            at: e.at,
-            line: e.line,
-            cursors: q,
-        };
+        return pass_rule(s, t, fence, x.at, x.line, q);
     }
     fire_line(
         s,
@@ -257,10 +265,8 @@ pub fn run_set(
         m = r.cursors;
         at = r.at;
         line = r.line;
-        if r.fired {
-            if !every {
-                return m;
-            }
+        if r.fired && !every {
+            return m;
         }
     }
     m

@@ -17,17 +17,18 @@ ghost use Rattle.resolver.specs.Heads.{AllHeads, NextHead, KthHeading};
 ghost use Rattle.values.specs.Filling.{Short};
 ghost use Rattle.matching.specs.Groups.{Rowed};
 ghost use Rattle.firing.specs.Writing.{Low};
-ghost use Rattle.resolver.specs.Running.{NextHeading, FirstWordAt, WalkedLine, WalkedFile};
+ghost use Rattle.resolver.specs.Running.{NextHeading, FirstWordAt, onto, WalkedLine, WalkedFile};
 use super::FirstWord;
 use super::HeadingAt;
 use super::Walk;
 use super::running::run_heading;
 use firing::Cursors;
 use matching::groups::note_group;
-use rules::Present;
-use rules::Progress;
+use rules::check::NO_HEADING;
+use rules::check::at_start;
 use rules::check::fence_behind;
-use rules::judge::form_of;
+use rules::check::next_progress;
+use rules::judge::present_by;
 use rules::lines::split_line;
 use rules::sets::read_set;
 use text::Next;
@@ -175,20 +176,8 @@ fn walk_set(
         buf,
         w.cursors,
     );
-    let index = h.index;
     Walk {
-        progress: Progress {
-            at,
-            line,
-            groups,
-            present: Present {
-                form: form_of(index),
-                left: h.left,
-                right: h.right,
-            },
-            fault: 0,
-            heading: true,
-        },
+        progress: next_progress(at, line, groups, present_by(h), 0, true),
         cursors,
     }
 }
@@ -266,18 +255,7 @@ fn walk_group(
     );
     let cursors = w.cursors;
     Walk {
-        progress: Progress {
-            at: e.at,
-            line: e.line,
-            groups: groups + 1,
-            present: Present {
-                form: 0,
-                left: 0,
-                right: 0,
-            },
-            fault: 0,
-            heading: true,
-        },
+        progress: next_progress(e.at, e.line, groups + 1, NO_HEADING, 0, true),
         cursors,
     }
 }
@@ -359,6 +337,19 @@ fn walk_heading(
     )
 }
 
+// The walk goes on at a heading that was found.
+fn onto_heading(w: Walk, o: HeadingAt) -> Walk
+    ensures { λ r. ⌜ r ≡ onto w o ⌝ }
+{
+    let p = w.progress;
+    let present = p.present;
+    let cursors = w.cursors;
+    Walk {
+        progress: next_progress(o.start, o.number, p.groups, present, 0, false),
+        cursors,
+    }
+}
+
 // The walk over a file whose lines are accepted: all that fires is written.
 pub fn walk(
     s: &[u8],
@@ -394,18 +385,7 @@ pub fn walk(
     let mut at: usize = 0;
     let mut k: usize = 0;
     let mut w = Walk {
-        progress: Progress {
-            at: 0,
-            line: 1,
-            groups: 0,
-            present: Present {
-                form: 0,
-                left: 0,
-                right: 0,
-            },
-            fault: 0,
-            heading: false,
-        },
+        progress: at_start(),
         cursors: q,
     };
     while at < s.len() {
@@ -414,8 +394,6 @@ pub fn walk(
         if !o.found {
             return w.cursors;
         }
-        let present = p.present;
-        let cursors = w.cursors;
         w = walk_heading(
             s,
             t,
@@ -435,17 +413,7 @@ pub fn walk(
             buf,
             o.at,
             o.line,
-            Walk {
-                progress: Progress {
-                    at: o.start,
-                    line: o.number,
-                    groups: p.groups,
-                    present,
-                    fault: 0,
-                    heading: false,
-                },
-                cursors,
-            },
+            onto_heading(w, o),
         );
         let r = w.progress;
         at = r.at;

@@ -23,7 +23,7 @@ use Rattle.rules.specs.Faults.{lineFaults, fileRefusals}
 use Rattle.rules.specs.Names.{definesOf}
 use Rattle.lookup.specs.Names.{namesAt}
 use Rattle.lookup.proofs.Adding.{named-none}
-use Rattle.rules.specs.Checking.{lineOf, noHeading, checkFrom, namesFrom, Ready, leftFaults, leftNames, Steps, toHeading, fromHeading, mostHeads, HeadAt, Heads, Lists, Checks}
+use Rattle.rules.specs.Checking.{lineOf, atStart, checkFrom, namesFrom, Ready, leftFaults, leftNames, Steps, toHeading, fromHeading, mostHeads, HeadAt, Heads, Lists, Checks}
 use Rattle.rules.proofs.LineChecks.{lines-checked, defines-named}
 
 -- what has been read of the file is right, and the rest is as it was
@@ -37,10 +37,7 @@ pub record Listing (s u : Text) (n at line : ℕ) : Type 0 where
   pub heads : Heads s u n
   pub next : n < mostHeads → fromHeading n (lines s) ≡ toHeading (follow s at line)
 
-abbrev pub start : Progress
-start = record { at = 0; line = 1; groups = 0; present = noHeading; fault = 0; heading = false }
-
-pub scan-start : (s t : Text) → length t ≡ 192 → Scanning s t start
+pub scan-start : (s t : Text) → length t ≡ 192 → Scanning s t atStart
 unfolding leftFaults leftNames namesAt follow lines
 scan-start s t h =
     record {

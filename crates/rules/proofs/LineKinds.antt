@@ -20,7 +20,7 @@ use Rattle.rules.specs.Entries.{Entry, ignored, wrong, group, set, rule,
 use Rattle.rules.specs.Splitting.{Tallied}
 use Rattle.rules.specs.declared.SetHeading.{SetHeading}
 use Rattle.rules.specs.Sets.{IsSet}
-use Rattle.rules.specs.Checking.{lineOf, formOf, presentOf, IsSetLine, IsKind}
+use Rattle.rules.specs.Checking.{lineOf, presentBy, presentOf, IsSetLine, IsKind}
 
 -- another way to write the same line
 pub kind-of : (ws : Words) (e e′ : Entry) (k : LineKind) → e ≡ e′ → IsKind ws e′ k → IsKind ws e k
@@ -195,15 +195,14 @@ module _ (n : ℕ) (h : Bool) (ws : Words) where
 pub first-count : (ws : Words) (t : Tally) → Tallied ws t → t .first ≤ t .count
 first-count ws t v = omega (arith, v .first, v .count, before-length ws)
 
-pub set-line : (ws : Words) (r : SetHeading) (i : ℕ) → setShape ws ≡ true → IsSet ws r → r .good ≡ true → i ≡ formOf (r .index) →
-    IsSetLine (setEntry ws) (record { form = i; left = r .left; right = r .right })
+pub set-line : (ws : Words) (r : SetHeading) → setShape ws ≡ true → IsSet ws r → r .good ≡ true → IsSetLine (setEntry ws) (presentBy r)
 unfolding presentOf
-set-line ws r i h v g k =
+set-line ws r h v g =
     let w = v .holds g in
     record {
       heading = headingOf (map leftItem (before ws)) (map componentOf (after ws));
       is = set-good ws h (sym (v .good) ∙ g);
-      present = rw (k, w .left, w .right, w .index);
+      present = rw (w .left, w .right, w .index);
       left = w .fewLeft;
       right = w .fewRight;
     }

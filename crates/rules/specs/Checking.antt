@@ -2,7 +2,7 @@
 use Prim.Native.Nat.{ℕ, zero, suc, _+_, _*_, _≤_, _<_}
 use mathlib.Core.Path.{_≡_}
 use mathlib.Core.List.{List, [], _∷_, _++_}
-use mathlib.Core.Bool.{Bool, true, _||_, _&&_, cond}
+use mathlib.Core.Bool.{Bool, true, false, _||_, _&&_, cond}
 use lib.ListN.{length, getD, drop, set}
 use lib.Dec.{eqb, ltb, leb}
 use Rattle.text.specs.declared.Refusal.{Refusal}
@@ -18,6 +18,7 @@ use Rattle.rules.specs.declared.LineKind.the-variants as kind
 use Rattle.rules.specs.declared.Progress.{Progress}
 use Rattle.rules.specs.declared.Checked.{Checked}
 use Rattle.rules.specs.declared.Index.{Index}
+use Rattle.rules.specs.declared.SetHeading.{SetHeading}
 use Rattle.rules.specs.Words.{isGroupName, ordinary}
 use Rattle.rules.specs.Percent.{malformed}
 use Rattle.rules.specs.Headings.{Heading, hasWord}
@@ -37,6 +38,14 @@ formOf i = cond (hasWord i) 2 1
 
 unfoldable pub presentOf : Heading → Present
 presentOf h = record { form = formOf (h .index); left = length (h .columns); right = length (h .components) }
+
+-- the same of a heading as it is read
+abbrev pub presentBy : SetHeading → Present
+presentBy h = record { form = formOf (h .index); left = h .left; right = h .right }
+
+-- before the first line
+abbrev pub atStart : Progress
+atStart = record { at = 0; line = 1; groups = 0; present = noHeading; fault = 0; heading = false }
 
 -- a rule's right words
 unfoldable pub rightFault : Bool → Words → ℕ

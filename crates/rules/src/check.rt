@@ -8,7 +8,7 @@ ghost use Rattle.text.specs.Bytes.{same as sameText, anyOf, part};
 ghost use Rattle.text.specs.Reading.{Table, Fenced};
 ghost use Rattle.lookup.specs.Names.{Named};
 ghost use Rattle.rules.specs.Splitting.{wordsOf, IsSplit};
-ghost use Rattle.rules.specs.Checking.{Adds, Ready, Steps, Lists, Checks};
+ghost use Rattle.rules.specs.Checking.{atStart, Adds, Ready, Steps, Lists, Checks};
 use super::Checked;
 use super::LineKind;
 use super::Present;
@@ -23,6 +23,40 @@ use text::Refusal;
 use text::reader::fence_of;
 use text::reader::open_line;
 use text::table::TABLE;
+
+pub const NO_HEADING: Present = Present {
+    form: 0,
+    left: 0,
+    right: 0,
+};
+
+// What is carried on from a line, with its refusal, or 0, and whether it is a heading.
+pub fn next_progress(
+    at: usize,
+    line: usize,
+    groups: usize,
+    present: Present,
+    fault: usize,
+    heading: bool,
+) -> Progress
+    ensures { λ r. ⌜ r ≡ record { at = at; line = line; groups = groups; present = present; fault = fault; heading = heading } ⌝ }
+{
+    Progress {
+        at,
+        line,
+        groups,
+        present,
+        fault,
+        heading,
+    }
+}
+
+// Before the first line.
+pub fn at_start() -> Progress
+    ensures { λ r. ⌜ r ≡ atStart ⌝ }
+{
+    next_progress(0, 1, 0, NO_HEADING, 0, false)
+}
 
 // One group more, with the name from `start` to `end`: refusal 10, or 0 and its place is kept.
 fn add_group(s: &[u8], names: &mut [usize; 192], groups: usize, start: usize, end: usize) -> usize
@@ -71,57 +105,18 @@ fn check_words(
     let line = o.line + l.line;
     let present = p.present;
     match line_kind(heading, w, places, l) {
-        LineKind::Ignored => Progress {
-            at,
-            line,
-            groups: p.groups,
-            present,
-            fault: 0,
-            heading,
-        },
-        LineKind::Wrong(k) => Progress {
-            at,
-            line,
-            groups: p.groups,
-            present,
-            fault: k,
-            heading,
-        },
+        LineKind::Ignored => next_progress(at, line, p.groups, present, 0, heading),
+        LineKind::Wrong(k) => next_progress(at, line, p.groups, present, k, heading),
         LineKind::Group => {
             let name = from + places[0] + 1;
             let end = from + places[1];
             let fault = add_group(s, names, p.groups, name, end);
-            Progress {
-                at,
-                line,
-                groups: p.groups + 1,
-                present: Present {
-                    form: 0,
-                    left: 0,
-                    right: 0,
-                },
-                fault,
-                heading,
-            }
+            next_progress(at, line, p.groups + 1, NO_HEADING, fault, heading)
         }
-        LineKind::Set(set) => Progress {
-            at,
-            line,
-            groups: p.groups,
-            present: set,
-            fault: 0,
-            heading,
-        },
+        LineKind::Set(set) => next_progress(at, line, p.groups, set, 0, heading),
         LineKind::Rule => {
             let fault = rule_fault(w, places, l.tally.count, present);
-            Progress {
-                at,
-                line,
-                groups: p.groups,
-                present,
-                fault,
-                heading,
-            }
+            next_progress(at, line, p.groups, present, fault, heading)
         }
     }
 }
@@ -143,14 +138,7 @@ fn check_line(
     if at == 0 {
         return check_words(s, t, fence, places, names, p);
     }
-    Progress {
-        at,
-        line: p.line + 1,
-        groups: p.groups,
-        present,
-        fault: 0,
-        heading: false,
-    }
+    next_progress(at, p.line + 1, p.groups, present, 0, false)
 }
 
 // One line more: where it starts and its number are listed, if it is a heading and one of the first 128.
@@ -188,18 +176,7 @@ pub fn check_file(s: &[u8], names: &mut [usize; 192], heads: &mut [usize; 256]) 
     let t = TABLE;
     let fence = fence_of(s);
     let mut places: [usize; 20] = [0; 20];
-    let mut p = Progress {
-        at: 0,
-        line: 1,
-        groups: 0,
-        present: Present {
-            form: 0,
-            left: 0,
-            right: 0,
-        },
-        fault: 0,
-        heading: false,
-    };
+    let mut p = at_start();
     let mut listed: usize = 0;
     while p.at < s.len() {
         let q = check_line(s, &t, fence, &mut places, names, p);

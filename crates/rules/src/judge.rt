@@ -9,11 +9,12 @@ ghost use Rattle.rules.specs.Words.{leftWord};
 ghost use Rattle.rules.specs.Percent.{malformed};
 ghost use Rattle.rules.specs.Checking.{rightFault};
 ghost use Rattle.rules.specs.Entries.{groupEntry, setEntry, headingEntry, entryOf};
-ghost use Rattle.rules.specs.Checking.{formOf, presentFault, IsKind, lineOf};
+ghost use Rattle.rules.specs.Checking.{formOf, presentBy, presentFault, IsKind, lineOf};
 ghost use Rattle.rules.specs.Splitting.{wordsOf, Placed, Tallied, IsSplit};
 use super::Index;
 use super::LineKind;
 use super::Present;
+use super::SetHeading;
 use super::Split;
 use super::Tally;
 use super::headings::has_word;
@@ -123,6 +124,18 @@ pub fn form_of(i: Index) -> usize
     1
 }
 
+// A set's heading, as it is carried on.
+pub fn present_by(h: SetHeading) -> Present
+    ensures { λ r. ⌜ r ≡ presentBy h ⌝ }
+{
+    let index = h.index;
+    Present {
+        form: form_of(index),
+        left: h.left,
+        right: h.right,
+    }
+}
+
 // Any other heading: a set's, or 6 or 7.
 fn set_kind(w: &[u8], places: &[usize], t: Tally) -> LineKind
     requires { ⌜ Placed (now w) (now places) (wordsOf (now w)) (length (wordsOf (now w))) × Tallied (wordsOf (now w)) t ⌝ }
@@ -144,12 +157,7 @@ fn set_kind(w: &[u8], places: &[usize], t: Tally) -> LineKind
     if !h.good {
         return LineKind::Wrong(7);
     }
-    let index = h.index;
-    LineKind::Set(Present {
-        form: form_of(index),
-        left: h.left,
-        right: h.right,
-    })
+    LineKind::Set(present_by(h))
 }
 
 // A heading by its first word.

@@ -21,18 +21,21 @@ returns c = long-file _ _ _ refl refl (c .if1 .taken)
 fence-of-requires : tie.Need-fence-of-requires Inv-loop μ-loop
 fence-of-requires c κs = search needs
 
+at-start-requires : tie.Need-at-start-requires Inv-loop μ-loop
+at-start-requires c κs = search needs
+
 loop-holds : tie.Need-loop-holds Inv-loop μ-loop
 unfolding entries
-loop-holds c = (scan-start _ _ refl, list-start _ _ refl, refl, table-right)
+loop-holds c = (rw (c .at-start .ensures) (scan-start _ _ refl), rw (c .at-start .ensures) (list-start _ _ refl), refl, table-right)
 
 slice-aggregate-check-line : tie.Need-slice-aggregate-check-line Inv-loop μ-loop
 slice-aggregate-check-line c = sym (c .before .before .before .before .loop .inv .2)
 
 check-line-requires : tie.Need-check-line-requires Inv-loop μ-loop
-check-line-requires c κs = (c .before .before .before .before .before .loop .inv .3, c .before .before .before .before .before .before .fence-of .ensures, c .before .before .before .before .before .loop .inv .2, c .before .before .before .before .before .loop .inv .0 .ready, c .before .before .before .if2 .taken)
+check-line-requires c κs = (c .before .before .before .before .before .loop .inv .3, c .before .before .before .before .before .before .before .fence-of .ensures, c .before .before .before .before .before .loop .inv .2, c .before .before .before .before .before .loop .inv .0 .ready, c .before .before .before .if2 .taken)
 
 returns-2 : tie.Need-returns-2 Inv-loop μ-loop
-returns-2 c = scan-wrong _ _ _ (c .before .before .before .before .before .before .before .before .before .loop .inv .0) _ _ (c .before .before .before .check-line .ensures .0) _ (c .before .before .before .before .before .before .before .before .before .loop .inv .1 .heads .size) (c .before .before .before .before .before .before .before .before .before .before .before .if1 .left) (c .if3 .taken)
+returns-2 c = scan-wrong _ _ _ (c .before .before .before .before .before .before .before .before .before .loop .inv .0) _ _ (c .before .before .before .check-line .ensures .0) _ (c .before .before .before .before .before .before .before .before .before .loop .inv .1 .heads .size) (c .before .before .before .before .before .before .before .before .before .before .before .before .if1 .left) (c .if3 .taken)
 
 list-heading-requires : tie.Need-list-heading-requires Inv-loop μ-loop
 list-heading-requires c κs = c .before .before .before .before .before .before .before .before .before .before .loop .inv .1 .heads .size
@@ -44,7 +47,7 @@ loop-again : tie.Need-loop-again Inv-loop μ-loop
 loop-again c = let o = c .before .before .before .before .before .check-line .ensures .0 .right (c .before .before .if3 .left) in (scan-more _ _ _ (c .before .before .before .before .before .before .before .before .before .before .before .loop .inv .0) _ _ (c .before .before .before .before .before .check-line .ensures .0) (c .before .before .if3 .left), list-more _ _ _ _ _ _ (c .before .before .before .before .before .before .before .before .before .before .before .loop .inv .1) _ (o .words) _ _ (o .read) _ (c .list-heading .ensures) (c .before .before .before .before .before .before .before .before .before .if2 .taken) (c .before .before .before .before .before .before .before .before .before .before .before .loop .inv .0 .ready .few), c .before .before .before .before .before .check-line .ensures .1, c .before .before .before .before .before .before .before .before .before .before .before .loop .inv .3)
 
 returns-3 : tie.Need-returns-3 Inv-loop μ-loop
-returns-3 c = scan-end _ _ _ (c .before .before .loop .inv .0) _ _ (c .before .before .loop .inv .1) (c .before .before .before .before .if1 .left) (c .if2 .left)
+returns-3 c = scan-end _ _ _ (c .before .before .loop .inv .0) _ _ (c .before .before .loop .inv .1) (c .before .before .before .before .before .if1 .left) (c .if2 .left)
 
 pub check-file-spec : {M : Type 1} → statement M
 check-file-spec =
@@ -54,6 +57,7 @@ check-file-spec =
     μ-loop
     returns
     fence-of-requires
+    at-start-requires
     loop-holds
     slice-aggregate-check-line
     check-line-requires

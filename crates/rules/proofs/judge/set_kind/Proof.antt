@@ -9,7 +9,7 @@ use Rattle.rules.proofs.Sides.{too-many}
 use borrow.Author.Needs.{needs}
 use Rattle.rules.proofs.judge.set_kind.Statement.{statement}
 use Rattle.rules.proofs.judge.set_kind.Tie as tie
-use Rattle.rules.proofs.judge.form_of.Reads as form-of-reads
+use Rattle.rules.proofs.judge.present_by.Reads as present-by-reads
 use Rattle.rules.proofs.sets.read_set.Reads as read-set-reads
 
 returns : tie.Need-returns
@@ -33,12 +33,12 @@ read-set-requires c κs = search needs
 returns-5 : tie.Need-returns-5
 returns-5 c = is-wrong _ _ _ (set-bad _ (set-shaped _ _ (c .before .before .before .before .before .before .before .before .before .before .before .before .pre .1) (c .before .before .before .before .before .before .before .before .if1 .left) (omega (arith, first-count _ _ (c .before .before .before .before .before .before .before .before .before .before .before .before .pre .1), c .before .before .before .before .before .before .if2 .left)) (c .before .before .before .before .before .if3 .left)) (sym (c .before .before .read-set .ensures .good) ∙ not-true _ (c .if5 .taken)))
 
-form-of-requires : tie.Need-form-of-requires
-form-of-requires c κs = search needs
+present-by-requires : tie.Need-present-by-requires
+present-by-requires c κs = search needs
 
 returns-6 : tie.Need-returns-6
 unfolding IsKind
-returns-6 c = set-line _ _ _ (set-shaped _ _ (c .before .before .before .before .before .before .before .before .before .before .before .before .before .pre .1) (c .before .before .before .before .before .before .before .before .before .if1 .left) (omega (arith, first-count _ _ (c .before .before .before .before .before .before .before .before .before .before .before .before .before .pre .1), c .before .before .before .before .before .before .before .if2 .left)) (c .before .before .before .before .before .before .if3 .left)) (c .before .before .before .read-set .ensures) (not-false _ (c .before .if5 .left)) (c .form-of .ensures)
+returns-6 c = rw (c .present-by .ensures) (set-line _ _ (set-shaped _ _ (c .before .before .before .before .before .before .before .before .before .before .before .before .before .pre .1) (c .before .before .before .before .before .before .before .before .before .if1 .left) (omega (arith, first-count _ _ (c .before .before .before .before .before .before .before .before .before .before .before .before .before .pre .1), c .before .before .before .before .before .before .before .if2 .left)) (c .before .before .before .before .before .before .if3 .left)) (c .before .before .before .read-set .ensures) (not-false _ (c .before .if5 .left)))
 
 pub set-kind-spec : {M : Type 1} → statement M
 set-kind-spec =
@@ -51,5 +51,5 @@ set-kind-spec =
     returns-4
     read-set-requires
     returns-5
-    form-of-requires
+    present-by-requires
     returns-6)
