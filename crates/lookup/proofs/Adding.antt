@@ -4,51 +4,102 @@ use native.Mathlib.Omega.{arith}
 use native.Mathlib.Numerals.{add-one}
 use mathlib.Core.Path.{_≡_, refl, sym, ap, _∙_}
 use mathlib.Core.List.{List, _∷_}
-use mathlib.Core.Bool.{Bool, true, false, _||_}
+use mathlib.Core.Bool.{Bool, true, false, _||_, cond}
 use lib.Dec.{eqb, ltb}
 use lib.ListN.{length, getD, set, length-set}
 use lib.Seq.{getD-set-same, getD-set-other}
-use borrow.Author.Tests.{eqb-true, eqb-false, ltb-true, ltb-false}
+use borrow.Author.Tests.{eqb-true, eqb-false, ltb-true, ltb-false, lt-ltb, le-ltb}
 use Rattle.text.specs.Bytes.{Text, same, part, anyOf}
 use Rattle.text.proofs.Lists.{no, same-self}
 use Rattle.text.proofs.Pairs.{withPair, pair-length, pair-old, pair-new}
-use Rattle.lookup.specs.Names.{nameAt, namesAt, rankedAt, mostNames, before, Ranked, Named, Ranks, Shifted, Added}
+use Rattle.lookup.specs.Names.{nameAt, namesAt, rankedAt, rankOf, numberOf, mostNames, before, Ranked, Named, moved, withName, isNew, Added}
 use Rattle.lookup.proofs.Ordering.{before-one}
-use Rattle.lookup.proofs.Ranking.{below-or, ranked-is}
+use Rattle.lookup.proofs.Ranking.{below-or, ranked-is, Ranks, ranks-by, number-named}
+
+-- numbers that stand one further
+
+abbrev step : List ℕ → ℕ → ℕ → List ℕ
+step t r m = set t (129 + (r + m)) (getD t (128 + (r + m)) 0)
+
+moved-suc : (t : List ℕ) (r m : ℕ) → moved t r (suc m) ≡ moved (step t r m) r m
+unfolding moved
+moved-suc t r m = refl
+
+moved-zero : (t : List ℕ) (r : ℕ) → moved t r 0 ≡ t
+unfolding moved
+moved-zero t r = refl
+
+moved-length : (t : List ℕ) (r m : ℕ) → length (moved t r m) ≡ length t
+moved-length t r zero = rw (moved-zero t r)
+moved-length t r (suc m) = rw (moved-suc t r m) (moved-length (step t r m) r m ∙ simp length-set)
+
+moved-old : (t : List ℕ) (r m j : ℕ) → j ≤ 128 + r → getD (moved t r m) j 0 ≡ getD t j 0
+moved-old t r zero j l = rw (moved-zero t r)
+moved-old t r (suc m) j l =
+    rw (moved-suc t r m)
+    (moved-old (step t r m) r m j l ∙
+    getD-set-other t (129 + (r + m)) j (getD t (128 + (r + m)) 0) 0 (λ (z : j ≡ 129 + (r + m)). omega arith))
+
+moved-far : (t : List ℕ) (r m j : ℕ) → 128 + (r + m) < j → getD (moved t r m) j 0 ≡ getD t j 0
+moved-far t r zero j l = rw (moved-zero t r)
+moved-far t r (suc m) j l =
+    rw (moved-suc t r m)
+    (moved-far (step t r m) r m j (omega arith) ∙
+    getD-set-other t (129 + (r + m)) j (getD t (128 + (r + m)) 0) 0 (λ (z : j ≡ 129 + (r + m)). omega arith))
+
+moved-further : (t : List ℕ) (r m k : ℕ) → 128 + (r + m) < length t → r < k → k ≤ r + m → getD (moved t r m) (128 + k) 0 ≡ getD t (127 + k) 0
+moved-further t r zero k z a b = absurd (omega arith)
+moved-further t r (suc m) k z a b = rw (moved-suc t r m) (by (eqb k (r + m + 1)) refl (moved-further (step t r m) r m k))
+  where
+    by : (u : Bool) → eqb k (r + m + 1) ≡ u → (128 + (r + m) < length (step t r m) → r < k → k ≤ r + m → getD (moved (step t r m) r m) (128 + k) 0 ≡ getD (step t r m) (127 + k) 0) →
+        getD (moved (step t r m) r m) (128 + k) 0 ≡ getD t (127 + k) 0
+    by true q f =
+        let c : k ≡ r + m + 1 = eqb-true k (r + m + 1) q in
+        let d : 128 + k ≡ 129 + (r + m) = omega arith in
+        let g : 127 + k ≡ 128 + (r + m) = omega arith in
+        moved-far (step t r m) r m (128 + k) (omega arith) ∙ rw (d, g) (getD-set-same t (129 + (r + m)) (getD t (128 + (r + m)) 0) 0 (omega arith))
+    by false q f =
+        let c : k < r + m + 1 = below-or k (r + m + 1) (omega arith) (eqb-false k (r + m + 1) q) in
+        f (simp length-set (omega arith)) a (omega arith) ∙
+        getD-set-other t (129 + (r + m)) (127 + k) (getD t (128 + (r + m)) 0) 0 (λ (y : 127 + k ≡ 129 + (r + m)). omega arith)
+
+-- the numbers from the rank r on stand one further
+pub record Shifted (t t′ : List ℕ) (r n : ℕ) : Type 0 where
+  pub size : length t′ ≡ 192
+  pub old : (j : ℕ) → j < 128 + r → getD t′ j 0 ≡ getD t j 0
+  pub further : (k : ℕ) → r < k → k ≤ n → getD t′ (128 + k) 0 ≡ getD t (127 + k) 0
+
+shifted : (t : List ℕ) (r n : ℕ) → r ≤ n → n < mostNames → length t ≡ 192 → Shifted t (moved t r (n - r)) r n
+shifted t r n l m z =
+    record {
+      size = moved-length t r (n - r) ∙ z;
+      old = λ j a. moved-old t r (n - r) j (omega arith);
+      further = λ k a b. moved-further t r (n - r) k (omega arith) a (omega arith);
+    }
 
 -- the loop of `make_room`: the numbers behind the rank k stand one further
-pub record Shifting (t t′ : List ℕ) (r n k : ℕ) : Type 0 where
+pub record Moving (t t′ : List ℕ) (r n k : ℕ) : Type 0 where
   pub low : r ≤ k
   pub few : k ≤ n
   pub size : length t′ ≡ 192
-  pub old : (j : ℕ) → j ≤ 128 + k → getD t′ j 0 ≡ getD t j 0
-  pub further : (i : ℕ) → k < i → i ≤ n → getD t′ (128 + i) 0 ≡ getD t (127 + i) 0
+  pub rest : moved t′ r (k - r) ≡ moved t r (n - r)
 
-pub shifting-start : (t : List ℕ) (r n : ℕ) → r ≤ n → length t ≡ 192 → Shifting t t r n n
-shifting-start t r n l z = record { low = l; few = omega arith; size = z; old = λ j a. refl; further = λ i a b. absurd (omega arith) }
+pub moving-start : (t : List ℕ) (r n : ℕ) → r ≤ n → length t ≡ 192 → Moving t t r n n
+moving-start t r n l z = record { low = l; few = omega arith; size = z; rest = refl }
 
-module _ (t t′ : List ℕ) (r n k : ℕ) where
-  pub shifting-more : n < mostNames → Shifting t t′ r n k → r < k → Shifting t (set t′ (128 + k) (getD t′ (127 + k) 0)) r n (k - 1)
-  shifting-more m v l =
-      record {
-        low = omega arith;
-        few = omega (arith, v .few);
-        size = simp length-set (v .size);
-        old = λ j a. getD-set-other t′ (128 + k) j (getD t′ (127 + k) 0) 0 (λ (z : j ≡ 128 + k). omega arith) ∙ v .old j (omega arith);
-        further = λ i a b. by i a b (eqb i k) refl;
-      }
-    where
-      by : (i : ℕ) → k - 1 < i → i ≤ n → (u : Bool) → eqb i k ≡ u → getD (set t′ (128 + k) (getD t′ (127 + k) 0)) (128 + i) 0 ≡ getD t (127 + i) 0
-      by i a b true q =
-          let c : i ≡ k = eqb-true i k q in
-          rw c (getD-set-same t′ (128 + k) (getD t′ (127 + k) 0) 0 (omega (arith, v .size, v .few)) ∙ v .old (127 + k) (omega arith))
-      by i a b false q =
-          getD-set-other t′ (128 + k) (128 + i) (getD t′ (127 + k) 0) 0 (λ (z : 128 + i ≡ 128 + k). eqb-false i k q (omega arith))
-          ∙ v .further i (below-or k i (omega arith) (λ z. eqb-false i k q (sym z))) b
+module _ (t t′ : List ℕ) (r n k : ℕ) (v : Moving t t′ r n k) where
+  pub moving-more : r < k → Moving t (set t′ (128 + k) (getD t′ (127 + k) 0)) r n (k - 1)
+  moving-more l =
+      let a : k - r ≡ suc (k - 1 - r) = omega arith in
+      let b : 129 + (r + (k - 1 - r)) ≡ 128 + k = omega arith in
+      let c : 128 + (r + (k - 1 - r)) ≡ 127 + k = omega arith in
+      let e : moved t′ r (k - r) ≡ moved (set t′ (128 + k) (getD t′ (127 + k) 0)) r (k - 1 - r) = ap (moved t′ r) a ∙ (moved-suc t′ r (k - 1 - r) ∙ rw (b, c)) in
+      record { low = omega arith; few = omega (arith, v .few); size = simp length-set (v .size); rest = sym e ∙ v .rest }
 
-  pub shifting-end : Shifting t t′ r n k → k ≤ r → Shifted t t′ r n
-  shifting-end v l =
-      record { size = v .size; old = λ j a. v .old j (omega (arith, v .low)); further = λ i a b. v .further i (omega arith) b }
+  pub moving-end : k ≤ r → t′ ≡ moved t r (n - r)
+  moving-end l =
+      let a : k - r ≡ 0 = omega arith in
+      sym (moved-zero t′ r) ∙ (ap (moved t′ r) (sym a) ∙ v .rest)
 
 -- a place behind the pairs
 pair-far : (t : List ℕ) (n a e j : ℕ) → 2 * n + 2 ≤ j → getD (withPair t n a e) j 0 ≡ getD t j 0
@@ -72,6 +123,12 @@ other-name s t q (suc n) g l h = go (eqb g n) refl (q (nameAt s t n)) refl h (λ
     go true e true y z f = absurd (no (sym z))
     go false e false y z f = f (below-or g n (omega arith) (eqb-false g n e)) z
     go false e true y z f = absurd (no (sym z))
+
+-- one name more, from a to e
+pub record NewName (s : Text) (t t′ : List ℕ) (n a e : ℕ) : Type 0 where
+  pub named : Named s t′ (n + 1)
+  pub old : (j : ℕ) → j < n → (getD t′ (2 * j) 0 ≡ getD t (2 * j) 0) × (getD t′ (2 * j + 1) 0 ≡ getD t (2 * j + 1) 0)
+  pub new : (getD t′ (2 * n) 0 ≡ a) × (getD t′ (2 * n + 1) 0 ≡ e)
 
 module _ (s : Text) (t t₁ : List ℕ) (n a e r : ℕ) (v : Named s t n) (l : n < mostNames) (h : Ranks s t n (part s a e) r) (m : Shifted t t₁ r n) where
   -- the table at the end
@@ -196,9 +253,9 @@ module _ (s : Text) (t t₁ : List ℕ) (n a e r : ℕ) (v : Named s t n) (l : n
             (λ i z c k. rw (ranked-above i z c, ranked-above j y b) (v .rising i j (omega arith) b))
             i (omega arith) k
 
-    pub added : a ≤ e → e ≤ length s → Added s t (set (set (set t₁ (128 + r) n) (2 * n) a) (2 * n + 1) e) n a e
+    new-name-in : a ≤ e → e ≤ length s → NewName s t (set (set (set t₁ (128 + r) n) (2 * n) a) (2 * n + 1) e) n a e
     unfolding withPair
-    added x y =
+    new-name-in x y =
         record {
           named =
               record {
@@ -230,10 +287,60 @@ names-length s t zero = refl
 names-length s t (suc n) = ap suc (names-length s t n)
 
 -- the names after one more
-pub added-names : (s : Text) (t t′ : List ℕ) (n a e : ℕ) → Added s t t′ n a e → namesAt s t′ (n + 1) ≡ part s a e ∷ namesAt s t n
+pub new-names : (s : Text) (t t′ : List ℕ) (n a e : ℕ) → NewName s t t′ n a e → namesAt s t′ (n + 1) ≡ part s a e ∷ namesAt s t n
 unfolding namesAt nameAt
-added-names s t t′ n a e v = rw (add-one n, v .new .0, v .new .1, old n (omega arith))
+new-names s t t′ n a e v = rw (add-one n, v .new .0, v .new .1, old n (omega arith))
   where
     old : (j : ℕ) → j ≤ n → namesAt s t′ j ≡ namesAt s t j
     old zero k = refl
     old (suc j) k = let o = v .old j (omega arith) in rw (o .0, o .1, old j (omega arith))
+
+-- whether a name is listed
+
+module _ (s : Text) (t : List ℕ) (n : ℕ) (w : Text) where
+  pub not-full : mostNames ≤ n → isNew s t n w ≡ false
+  unfolding isNew
+  not-full l = by (anyOf (same w) (namesAt s t n))
+    where
+      by : (b : Bool) → cond b false (ltb n mostNames) ≡ false
+      by true = refl
+      by false = le-ltb n mostNames l
+
+  pub not-again : anyOf (same w) (namesAt s t n) ≡ true → isNew s t n w ≡ false
+  unfolding isNew
+  not-again h = rw h
+
+  pub is-new : anyOf (same w) (namesAt s t n) ≡ false → n < mostNames → isNew s t n w ≡ true
+  unfolding isNew
+  is-new h l = rw h (lt-ltb n mostNames l)
+
+  -- by the number that was found
+  pub old-number : (g : ℕ) → g ≡ numberOf s t n w → n < mostNames → g < mostNames → isNew s t n w ≡ false
+  old-number g e l k = not-again (sym (number-named s t w n (omega arith)) ∙ lt-ltb (numberOf s t n w) mostNames (rw e at k))
+
+  pub new-number : (g : ℕ) → g ≡ numberOf s t n w → n < mostNames → mostNames ≤ g → isNew s t n w ≡ true
+  new-number g e l k = is-new (sym (number-named s t w n (omega arith)) ∙ le-ltb (numberOf s t n w) mostNames (rw e at k)) l
+
+module _ (s : Text) (t : List ℕ) (n a e : ℕ) where
+  pub adds-none : isNew s t n (part s a e) ≡ false → Added s t t n a e n
+  adds-none h = record { table = rw h; count = rw h }
+
+  pub adds-new : isNew s t n (part s a e) ≡ true → (r : ℕ) → r ≡ rankOf s t n (part s a e) → (t₁ : List ℕ) → t₁ ≡ moved t r (n - r) →
+      Added s t (set (set (set t₁ (128 + r) n) (2 * n) a) (2 * n + 1) e) n a e (n + 1)
+  unfolding withName
+  adds-new h r z t₁ y = record { table = rw (h, ← z, y); count = rw h }
+
+  module _ (t′ : List ℕ) (r : ℕ) (v : Added s t t′ n a e r) where
+    pub added-none : isNew s t n (part s a e) ≡ false → (t′ ≡ t) × (r ≡ n)
+    added-none h = (v .table ∙ rw h, v .count ∙ rw h)
+
+    pub added-count : isNew s t n (part s a e) ≡ true → r ≡ n + 1
+    added-count h = v .count ∙ rw h
+
+    pub added-new : Named s t n → a ≤ e → e ≤ length s → anyOf (same (part s a e)) (namesAt s t n) ≡ false → n < mostNames → NewName s t t′ n a e
+    unfolding withName
+    added-new u x y d l =
+        let k = rankOf s t n (part s a e) in
+        let h = ranks-by s t n u (part s a e) k refl in
+        let z : t′ ≡ set (set (set (moved t k (n - k)) (128 + k) n) (2 * n) a) (2 * n + 1) e = v .table ∙ rw (is-new s t n (part s a e) d l) in
+        rw z (new-name-in s t (moved t k (n - k)) n a e k u l h (shifted t k n (h .few) l (u .size)) d x y)

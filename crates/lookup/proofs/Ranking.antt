@@ -9,7 +9,7 @@ use lib.ListN.{getD}
 use borrow.Author.Tests.{eqb-true, eqb-false, ltb-true, ltb-false, lt-ltb}
 use Rattle.text.specs.Bytes.{Text, same, part, anyOf}
 use Rattle.text.proofs.Lists.{no, same-eq}
-use Rattle.lookup.specs.Names.{nameAt, namesAt, rankedAt, numberOf, mostNames, before, Named, Ranks}
+use Rattle.lookup.specs.Names.{nameAt, namesAt, rankedAt, numberOf, rankOf, mostNames, before, Named}
 use Rattle.lookup.proofs.Ordering.{before-self, before-through}
 
 pub below-or : (x y : ℕ) → x ≤ y → (x ≡ y → ⊥) → x < y
@@ -18,6 +18,75 @@ below-or x y l d = by (ltb x y) refl
     by : (u : Bool) → ltb x y ≡ u → x < y
     by true z = ltb-true x y z
     by false z = absurd (d (let k = ltb-false x y z in omega arith))
+
+-- r of the first n names stand before w
+pub record Ranks (s : Text) (t : List ℕ) (n : ℕ) (w : Text) (r : ℕ) : Type 0 where
+  pub few : r ≤ n
+  pub below : (i : ℕ) → i < r → before (rankedAt s t i) w ≡ true
+  pub above : (i : ℕ) → r ≤ i → i < n → before (rankedAt s t i) w ≡ false
+
+rank-suc : (s : Text) (t : List ℕ) (n : ℕ) (w : Text) → rankOf s t (suc n) w ≡ cond (before (rankedAt s t n) w) (suc n) (rankOf s t n w)
+unfolding rankOf
+rank-suc s t n w = refl
+
+rank-zero : (s : Text) (t : List ℕ) (w : Text) → rankOf s t 0 w ≡ 0
+unfolding rankOf
+rank-zero s t w = refl
+
+-- they are as many as the rank of w
+rank-is : (s : Text) (t : List ℕ) (n : ℕ) (w : Text) (r : ℕ) → Ranks s t n w r → r ≡ rankOf s t n w
+rank-is s t zero w r h = let z : r ≡ 0 = omega (arith, h .few) in z ∙ sym (rank-zero s t w)
+rank-is s t (suc n) w r h = by (eqb r (suc n)) refl (rank-is s t n w r)
+  where
+    by : (u : Bool) → eqb r (suc n) ≡ u → (Ranks s t n w r → r ≡ rankOf s t n w) → r ≡ rankOf s t (suc n) w
+    by true q f =
+        let c : r ≡ suc n = eqb-true r (suc n) q in
+        c ∙ sym (rank-suc s t n w ∙ rw (h .below n (omega arith)))
+    by false q f =
+        let c : r < suc n = below-or r (suc n) (h .few) (eqb-false r (suc n) q) in
+        f (record { few = omega arith; below = h .below; above = λ i a b. h .above i a (omega arith) })
+        ∙ sym (rank-suc s t n w ∙ rw (h .above n (omega arith) (omega arith)))
+
+rank-few : (s : Text) (t : List ℕ) (n : ℕ) (w : Text) → rankOf s t n w ≤ n
+rank-few s t zero w = rw (rank-zero s t w) (omega arith)
+rank-few s t (suc n) w = rw (rank-suc s t n w) (by (before (rankedAt s t n) w) (rank-few s t n w))
+  where
+    by : (b : Bool) → rankOf s t n w ≤ n → cond b (suc n) (rankOf s t n w) ≤ suc n
+    by true k = omega arith
+    by false k = omega arith
+
+rank-above : (s : Text) (t : List ℕ) (n : ℕ) (w : Text) (i : ℕ) → rankOf s t n w ≤ i → i < n → before (rankedAt s t i) w ≡ false
+rank-above s t zero w i a b = absurd (omega arith)
+rank-above s t (suc n) w i a b = by (before (rankedAt s t n) w) refl (eqb i n) refl (rw (rank-suc s t n w) at a) (rank-above s t n w i)
+  where
+    by : (x : Bool) → before (rankedAt s t n) w ≡ x → (y : Bool) → eqb i n ≡ y → cond x (suc n) (rankOf s t n w) ≤ i →
+        (rankOf s t n w ≤ i → i < n → before (rankedAt s t i) w ≡ false) → before (rankedAt s t i) w ≡ false
+    by true p y q l f = absurd (omega arith)
+    by false p true q l f = let c : i ≡ n = eqb-true i n q in rw c p
+    by false p false q l f = f l (below-or i n (omega arith) (eqb-false i n q))
+
+rank-last : (s : Text) (t : List ℕ) (n : ℕ) (w : Text) (k : ℕ) → rankOf s t n w ≡ suc k → before (rankedAt s t k) w ≡ true
+rank-last s t zero w k e = let z : 0 ≡ suc k = sym (rank-zero s t w) ∙ e in absurd (omega arith)
+rank-last s t (suc n) w k e = by (before (rankedAt s t n) w) refl (sym (rank-suc s t n w) ∙ e) (rank-last s t n w k)
+  where
+    by : (x : Bool) → before (rankedAt s t n) w ≡ x → cond x (suc n) (rankOf s t n w) ≡ suc k → (rankOf s t n w ≡ suc k → before (rankedAt s t k) w ≡ true) →
+        before (rankedAt s t k) w ≡ true
+    by true p l f = let c : k ≡ n = omega arith in rw c p
+    by false p l f = f l
+
+-- and the names of a lower rank are those that stand before w
+pub ranks-by : (s : Text) (t : List ℕ) (n : ℕ) → Named s t n → (w : Text) (r : ℕ) → r ≡ rankOf s t n w → Ranks s t n w r
+ranks-by s t n v w r e = rw e (record { few = rank-few s t n w; below = below (rankOf s t n w) refl; above = rank-above s t n w })
+  where
+    below : (k : ℕ) → rankOf s t n w ≡ k → (i : ℕ) → i < k → before (rankedAt s t i) w ≡ true
+    below zero q i l = absurd (omega arith)
+    below (suc k) q i l = by (eqb i k) refl
+      where
+        by : (u : Bool) → eqb i k ≡ u → before (rankedAt s t i) w ≡ true
+        by true z = let c : i ≡ k = eqb-true i k z in rw c (rank-last s t n w k q)
+        by false z =
+            let f = rank-few s t n w in
+            before-through (rankedAt s t i) (rankedAt s t k) w (v .rising i k (below-or i k (omega arith) (eqb-false i k z)) (omega (arith, q))) (rank-last s t n w k q)
 
 -- the loop of `rank_of`: the names below `low` stand before w, those from `high` on do not
 pub record Halving (s : Text) (t : List ℕ) (n : ℕ) (w : Text) (low high : ℕ) : Type 0 where
@@ -61,9 +130,9 @@ module _ (s : Text) (t : List ℕ) (n : ℕ) (w : Text) (v : Named s t n) where
             off true z =
                 absurd (no (sym e ∙ before-through (rankedAt s t i) (rankedAt s t j) w (v .rising i j (below-or i j a (eqb-false i j q)) b) z))
 
-  pub halving-end : (low high : ℕ) → Halving s t n w low high → high ≤ low → Ranks s t n w low
+  pub halving-end : (low high : ℕ) → Halving s t n w low high → high ≤ low → low ≡ rankOf s t n w
   halving-end low high h l =
-      record { few = omega (arith, h .between, h .few); below = h .below; above = λ i a b. h .above i (omega (arith, h .between)) b }
+      rank-is s t n w low (record { few = omega (arith, h .between, h .few); below = h .below; above = λ i a b. h .above i (omega (arith, h .between)) b })
 
 -- what a number stands for
 

@@ -1,11 +1,11 @@
 -- Names listed in a table by their places in a text, with their order.
-use Prim.Native.Nat.{ℕ, zero, suc, _+_, _*_, _≤_, _<_}
+use Prim.Native.Nat.{ℕ, zero, suc, _+_, _*_, _-_, _≤_, _<_}
 use mathlib.Core.Path.{_≡_}
 use mathlib.Core.List.{List, [], _∷_}
 use mathlib.Core.Bool.{Bool, true, false, cond}
 use lib.Dec.{eqb, ltb}
-use lib.ListN.{length, getD}
-use Rattle.text.specs.Bytes.{Text, same, part}
+use lib.ListN.{length, getD, set}
+use Rattle.text.specs.Bytes.{Text, same, part, anyOf}
 
 -- as many as there may be groups, or options
 abbrev pub mostNames : ℕ
@@ -53,20 +53,25 @@ pub record Named (s : Text) (t : List ℕ) (n : ℕ) : Type 0 where
   pub ranks : (g : ℕ) → g < n → Ranked t n g
   pub rising : (i j : ℕ) → i < j → j < n → before (rankedAt s t i) (rankedAt s t j) ≡ true
 
--- r of the first n names stand before w
-pub record Ranks (s : Text) (t : List ℕ) (n : ℕ) (w : Text) (r : ℕ) : Type 0 where
-  pub few : r ≤ n
-  pub below : (i : ℕ) → i < r → before (rankedAt s t i) w ≡ true
-  pub above : (i : ℕ) → r ≤ i → i < n → before (rankedAt s t i) w ≡ false
+-- the rank that w has among the first n names, or would have: those of a lower rank stand before it
+unfoldable pub rankOf : Text → List ℕ → ℕ → Text → ℕ
+rankOf s t zero w = 0
+rankOf s t (suc n) w = cond (before (rankedAt s t n) w) (suc n) (rankOf s t n w)
 
--- the numbers from the rank r on stand one further
-pub record Shifted (t t′ : List ℕ) (r n : ℕ) : Type 0 where
-  pub size : length t′ ≡ 192
-  pub old : (j : ℕ) → j < 128 + r → getD t′ j 0 ≡ getD t j 0
-  pub further : (k : ℕ) → r < k → k ≤ n → getD t′ (128 + k) 0 ≡ getD t (127 + k) 0
+-- the m numbers from the rank r on stand one further
+unfoldable pub moved : List ℕ → ℕ → ℕ → List ℕ
+moved t r zero = t
+moved t r (suc m) = moved (set t (129 + (r + m)) (getD t (128 + (r + m)) 0)) r m
 
--- one name more, from a to e
-pub record Added (s : Text) (t t′ : List ℕ) (n a e : ℕ) : Type 0 where
-  pub named : Named s t′ (n + 1)
-  pub old : (j : ℕ) → j < n → (getD t′ (2 * j) 0 ≡ getD t (2 * j) 0) × (getD t′ (2 * j + 1) 0 ≡ getD t (2 * j + 1) 0)
-  pub new : (getD t′ (2 * n) 0 ≡ a) × (getD t′ (2 * n + 1) 0 ≡ e)
+-- the table with one name more, from a to e, whose number n is put at the rank r
+unfoldable pub withName : List ℕ → ℕ → ℕ → ℕ → ℕ → List ℕ
+withName t r n a e = set (set (set (moved t r (n - r)) (128 + r) n) (2 * n) a) (2 * n + 1) e
+
+-- w is none of the first n names, and there is room for it
+unfoldable pub isNew : Text → List ℕ → ℕ → Text → Bool
+isNew s t n w = cond (anyOf (same w) (namesAt s t n)) false (ltb n mostNames)
+
+-- the name from a to e, listed if it is new: r names are listed then
+pub record Added (s : Text) (t t′ : List ℕ) (n a e r : ℕ) : Type 0 where
+  pub table : t′ ≡ cond (isNew s t n (part s a e)) (withName t (rankOf s t n (part s a e)) n a e) t
+  pub count : r ≡ cond (isNew s t n (part s a e)) (n + 1) n

@@ -1,10 +1,9 @@
 // A table of at most 64 names: start and end of each in the text, as they came, and from 128 on their numbers in the order of the names.
 ghost use mathlib.Core.Path.{_≡_};
-ghost use mathlib.Core.Bool.{false};
-ghost use Prim.Native.Nat.{_≤_, _<_};
+ghost use Prim.Native.Nat.{_≤_, _<_, _-_};
 ghost use lib.ListN.{length};
-ghost use Rattle.text.specs.Bytes.{same as sameText, anyOf, part};
-ghost use Rattle.lookup.specs.Names.{Named, nameAt, namesAt, numberOf, mostNames, Ranks, Shifted, Added};
+ghost use Rattle.text.specs.Bytes.{same as sameText, anyOf};
+ghost use Rattle.lookup.specs.Names.{Named, nameAt, namesAt, numberOf, mostNames, rankOf, moved, Added};
 use super::order::precedes;
 use text::compare::same;
 
@@ -18,10 +17,10 @@ fn name_of<'a>(s: &'a [u8], table: &[usize; 192], n: usize, g: usize) -> &'a [u8
     &s[start..end]
 }
 
-// How many of the first n names stand before a name.
+// The rank of a name among the first n, or that it would have.
 fn rank_of(s: &[u8], table: &[usize; 192], n: usize, name: &[u8]) -> usize
     requires { ⌜ Named (now s) (now table) n ⌝ }
-    ensures { λ r. ⌜ Ranks (now (s .entry)) (now (table .entry)) n (now (name .entry)) r ⌝ }
+    ensures { λ r. ⌜ r ≡ rankOf (now (s .entry)) (now (table .entry)) n (now (name .entry)) ⌝ }
 {
     let mut low: usize = 0;
     let mut high = n;
@@ -37,12 +36,11 @@ fn rank_of(s: &[u8], table: &[usize; 192], n: usize, name: &[u8]) -> usize
     low
 }
 
-// The number of a name among the first n, or 64.
-pub fn find(s: &[u8], table: &[usize; 192], n: usize, name: &[u8]) -> usize
-    requires { ⌜ Named (now s) (now table) n ⌝ }
+// The number of a name among the first n, with its rank i, or 64.
+fn number_at(s: &[u8], table: &[usize; 192], n: usize, i: usize, name: &[u8]) -> usize
+    requires { ⌜ Named (now s) (now table) n × (i ≡ rankOf (now s) (now table) n (now name)) ⌝ }
     ensures { λ r. ⌜ r ≡ numberOf (now (s .entry)) (now (table .entry)) n (now (name .entry)) ⌝ }
 {
-    let i = rank_of(s, table, n, name);
     if n <= i {
         return 64;
     }
@@ -51,6 +49,15 @@ pub fn find(s: &[u8], table: &[usize; 192], n: usize, name: &[u8]) -> usize
         return g;
     }
     64
+}
+
+// The number of a name among the first n, or 64.
+pub fn find(s: &[u8], table: &[usize; 192], n: usize, name: &[u8]) -> usize
+    requires { ⌜ Named (now s) (now table) n ⌝ }
+    ensures { λ r. ⌜ r ≡ numberOf (now (s .entry)) (now (table .entry)) n (now (name .entry)) ⌝ }
+{
+    let i = rank_of(s, table, n, name);
+    number_at(s, table, n, i, name)
 }
 
 // Whether one of the first n is the name.
@@ -64,7 +71,7 @@ pub fn has_name(s: &[u8], table: &[usize; 192], n: usize, name: &[u8]) -> bool
 // The numbers in order, from the rank i up to n, stand one further.
 fn make_room(table: &mut [usize; 192], i: usize, n: usize)
     requires { ⌜ (i ≤ n) × (n < mostNames) × (length (now table) ≡ 192) ⌝ }
-    ensures { λ _. ⌜ Shifted (now (table .entry)) (now (table .exit)) i n ⌝ }
+    ensures { λ _. ⌜ now (table .exit) ≡ moved (now (table .entry)) i (n - i) ⌝ }
 {
     let mut k = n;
     while i < k {
@@ -73,15 +80,22 @@ fn make_room(table: &mut [usize; 192], i: usize, n: usize)
     }
 }
 
-// One name more, from `start` to `end`, that is none of the first n.
-pub fn add(s: &[u8], table: &mut [usize; 192], n: usize, start: usize, end: usize)
-    requires { ⌜ Named (now s) (now table) n × (n < mostNames) × (start ≤ end) × (end ≤ length (now s))
-        × (anyOf (sameText (part (now s) start end)) (namesAt (now s) (now table) n) ≡ false) ⌝ }
-    ensures { λ _. ⌜ Added (now (s .entry)) (now (table .entry)) (now (table .exit)) n start end ⌝ }
+// Lists the name from `start` to `end`, unless it is one of the first n or there are 64 already: how many are listed then.
+pub fn add(s: &[u8], table: &mut [usize; 192], n: usize, start: usize, end: usize) -> usize
+    requires { ⌜ Named (now s) (now table) n × (start ≤ end) × (end ≤ length (now s)) ⌝ }
+    ensures { λ r. ⌜ Added (now (s .entry)) (now (table .entry)) (now (table .exit)) n start end r ⌝ }
 {
-    let i = rank_of(s, table, n, &s[start..end]);
+    if 64 <= n {
+        return n;
+    }
+    let name = &s[start..end];
+    let i = rank_of(s, table, n, name);
+    if number_at(s, table, n, i, name) < 64 {
+        return n;
+    }
     make_room(table, i, n);
     table[128 + i] = n;
     table[2 * n] = start;
     table[2 * n + 1] = end;
+    n + 1
 }

@@ -8,14 +8,14 @@ use mathlib.Core.Bool.{Bool}
 use lib.ListN.{drop}
 use Rattle.text.specs.Bytes.{Text, part}
 use Rattle.text.specs.Reading.{left}
-use Rattle.lookup.specs.Names.{nameAt, Added}
-use Rattle.lookup.proofs.Adding.{added-names}
+use Rattle.lookup.specs.Names.{nameAt}
+use Rattle.lookup.proofs.Adding.{NewName, new-names}
 use Rattle.profile.specs.Profile.{Profile}
 use Rattle.matching.specs.Groups.{groupsAt, Rowed, Noted}
 use Rattle.matching.specs.Rows.{RowFilled}
 use Rattle.matching.proofs.Filling.{rowed-more}
 
-module _ (s : Text) (t t′ : List ℕ) (n a e : ℕ) (v : Added s t t′ n a e) where
+module _ (s : Text) (t t′ : List ℕ) (n a e : ℕ) (v : NewName s t t′ n a e) where
   groups-before : (j : ℕ) → j ≤ n → groupsAt s t′ j ≡ groupsAt s t j
   unfolding groupsAt nameAt
   groups-before zero h = refl
@@ -30,6 +30,6 @@ module _ (s : Text) (t t′ : List ℕ) (n a e : ℕ) (v : Added s t t′ n a e)
       record {
         named = v .named;
         rowed = rowed-more p s t t′ rows rows′ n e u f (λ g m. v .old g m .1) (v .new .1);
-        names = added-names s t t′ n a e v;
+        names = new-names s t t′ n a e v;
         groups = group-more;
       }

@@ -14,9 +14,9 @@ use Rattle.text.proofs.Comparing.{drop-at}
 use Rattle.text.proofs.Lists.{same-eq}
 use Rattle.profile.specs.Profile.{fields, dropEmpty, optionsOf}
 use Rattle.profile.specs.Splitting.{behind, FieldEnd}
-use Rattle.lookup.specs.Names.{Named, namesAt, Added}
-use Rattle.lookup.proofs.Adding.{named-none, added-names}
-use Rattle.profile.specs.Listing.{Listed, OneMore}
+use Rattle.lookup.specs.Names.{mostNames, Named, namesAt, Added}
+use Rattle.lookup.proofs.Adding.{NewName, named-none, new-names, not-again, added-none, added-count, added-new, is-new}
+use Rattle.profile.specs.Listing.{Listed}
 use Rattle.profile.proofs.Splitting.{part-empty, fields-nil, behind-nil, behind-cons}
 
 -- the clauses of the definitions
@@ -101,20 +101,35 @@ module _ (s : Text) where
         let z : length (optionsOf (drop start s)) ≡ 0 = ap length (options-end s start h) in
         omega (arith, v .rest)
 
--- one option more in the table
+-- one option more in the table, from a to e
+pub record OneMore (o : Text) (t t′ : List ℕ) (count a e r : ℕ) : Type 0 where
+  pub named : Named o t′ r
+  pub few : r ≤ count + 1
+  pub held : (w : Text) → anyOf (same w) (namesAt o t′ r) ≡ (same w (part o a e) || anyOf (same w) (namesAt o t count))
 
 module _ (s t : Text) (count a e : ℕ) (v : Named s t count) where
   -- a listed option is not listed again
-  pub again : anyOf (same (part s a e)) (namesAt s t count) ≡ true → OneMore s t t count a e count
+  again : anyOf (same (part s a e)) (namesAt s t count) ≡ true → OneMore s t t count a e count
   again h = record { named = v; few = omega arith; held = λ w. by w (same w (part s a e)) refl }
     where
       by : (w : Text) (b : Bool) → same w (part s a e) ≡ b → anyOf (same w) (namesAt s t count) ≡ b || anyOf (same w) (namesAt s t count)
       by w false q = refl
       by w true q = ap (λ (x : Text). anyOf (same x) (namesAt s t count)) (same-eq w (part s a e) q) ∙ h
 
-  pub listed-one : (t′ : List ℕ) → Added s t t′ count a e → OneMore s t t′ count a e (count + 1)
+  listed-one : (t′ : List ℕ) → NewName s t t′ count a e → OneMore s t t′ count a e (count + 1)
   unfolding anyOf
-  listed-one t′ h = record { named = h .named; few = omega arith; held = λ w. ap (anyOf (same w)) (added-names s t t′ count a e h) }
+  listed-one t′ h = record { named = h .named; few = omega arith; held = λ w. ap (anyOf (same w)) (new-names s t t′ count a e h) }
+
+  one-more : a ≤ e → e ≤ length s → count < mostNames → (t′ : List ℕ) (r : ℕ) → Added s t t′ count a e r → OneMore s t t′ count a e r
+  one-more x y l t′ r u = by (anyOf (same (part s a e)) (namesAt s t count)) refl
+    where
+      by : (b : Bool) → anyOf (same (part s a e)) (namesAt s t count) ≡ b → OneMore s t t′ count a e r
+      by true h =
+          let z = added-none s t count a e t′ r u (not-again s t count (part s a e) h) in
+          rw (z .0, z .1) (again h)
+      by false h =
+          let z = added-count s t count a e t′ r u (is-new s t count (part s a e) h l) in
+          rw z (listed-one t′ (added-new s t count a e t′ r u v x y h l))
 
 -- the loop of `list_options`: `seen` options are passed
 pub record Listing (s t : List ℕ) (count seen start : ℕ) : Type 0 where
@@ -159,8 +174,9 @@ module _ (s : List ℕ) where
 
   module _ (t : List ℕ) (count seen start : ℕ) (v : Listing s t count seen start) where
     module _ (e : ℕ) (f : FieldEnd s start e) where
-      pub listing-field : seen < mostOptions → start < e → (t′ : List ℕ) (r : ℕ) → OneMore s t t′ count start e r → Listing s t′ r (seen + 1) (e + 1)
-      listing-field l h t′ r u =
+      pub listing-field : seen < mostOptions → start < e → (t′ : List ℕ) (r : ℕ) → Added s t t′ count start e r → Listing s t′ r (seen + 1) (e + 1)
+      listing-field l h t′ r x =
+          let u = one-more s t count start e (v .named) (f .low) (f .high) (omega (arith, v .fewer)) t′ r x in
           record {
             passed = v .passed ++ (part s start e ∷ []);
             many = length-append (v .passed) (part s start e ∷ []) ∙ ap (λ (n : ℕ). n + 1) (v .many);

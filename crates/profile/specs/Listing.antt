@@ -1,11 +1,10 @@
 -- A table of a profile's options. Document 01, "The profile": "Empty option fields are dropped; at most 64 options remain."
-use Prim.Native.Nat.{ℕ, _+_, _≤_}
+use Prim.Native.Nat.{ℕ}
 use mathlib.Core.Path.{_≡_}
 use mathlib.Core.List.{List}
-use mathlib.Core.Bool.{_||_}
 use lib.ListN.{take}
 use Rattle.text.specs.Limits.{mostOptions}
-use Rattle.text.specs.Bytes.{Text, part, same, anyOf}
+use Rattle.text.specs.Bytes.{Text, same, anyOf}
 use Rattle.lookup.specs.Names.{Named, namesAt}
 use Rattle.profile.specs.Profile.{optionsOf}
 
@@ -13,9 +12,3 @@ use Rattle.profile.specs.Profile.{optionsOf}
 pub record Listed (o : Text) (t : List ℕ) (count : ℕ) : Type 0 where
   pub named : Named o t count
   pub held : (w : Text) → anyOf (same w) (namesAt o t count) ≡ anyOf (same w) (take mostOptions (optionsOf o))
-
--- one option more, from a to e
-pub record OneMore (o : Text) (t t′ : List ℕ) (count a e r : ℕ) : Type 0 where
-  pub named : Named o t′ r
-  pub few : r ≤ count + 1
-  pub held : (w : Text) → anyOf (same w) (namesAt o t′ r) ≡ (same w (part o a e) || anyOf (same w) (namesAt o t count))

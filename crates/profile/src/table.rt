@@ -4,9 +4,7 @@ ghost use lib.ListN.{length, take};
 ghost use Rattle.text.specs.Limits.{mostOptions};
 ghost use Rattle.text.specs.Bytes.{same as sameText, anyOf};
 ghost use Rattle.profile.specs.Profile.{optionsOf};
-ghost use Rattle.profile.specs.Listing.{Listed, OneMore};
-ghost use Prim.Native.Nat.{_≤_, _<_};
-ghost use Rattle.lookup.specs.Names.{Named, mostNames};
+ghost use Rattle.profile.specs.Listing.{Listed};
 use lookup::names::add;
 use lookup::names::has_name;
 
@@ -28,24 +26,6 @@ pub fn option_count(options: &[u8]) -> usize
     n
 }
 
-// Lists one option more, from `start` to `end`, unless it is listed: how many there are.
-fn list_option(
-    options: &[u8],
-    table: &mut [usize; 192],
-    count: usize,
-    start: usize,
-    end: usize,
-) -> usize
-    requires { ⌜ Named (now options) (now table) count × (count < mostNames) × (start ≤ end) × (end ≤ length (now options)) ⌝ }
-    ensures { λ r. ⌜ OneMore (now (options .entry)) (now (table .entry)) (now (table .exit)) count start end r ⌝ }
-{
-    if has_name(options, table, count, &options[start..end]) {
-        return count;
-    }
-    add(options, table, count, start, end);
-    count + 1
-}
-
 // Lists the first 64 options, each once, and says how many are listed.
 pub fn list_options(options: &[u8], table: &mut [usize; 192]) -> usize
     ensures { λ r. ⌜ Listed (now (options .entry)) (now (table .exit)) r ⌝ }
@@ -60,7 +40,7 @@ pub fn list_options(options: &[u8], table: &mut [usize; 192]) -> usize
         }
         let e = crate::fields::field_end(options, start);
         if start < e {
-            count = list_option(options, table, count, start, e);
+            count = add(options, table, count, start, e);
             seen += 1;
             start = e + 1;
         } else {

@@ -18,7 +18,6 @@ use super::judge::rule_fault;
 use super::lines::split_line;
 use super::plain::line_end;
 use lookup::names::add;
-use lookup::names::has_name;
 use text::Refusal;
 use text::reader::fence_of;
 use text::reader::open_line;
@@ -63,13 +62,9 @@ fn add_group(s: &[u8], names: &mut [usize; 192], groups: usize, start: usize, en
     requires { ⌜ Named (now s) (now names) groups × (start ≤ end) × (end ≤ length (now s)) ⌝ }
     ensures { λ r. ⌜ Adds (now (s .entry)) (now (names .entry)) (now (names .exit)) groups start end r ⌝ }
 {
-    if has_name(s, names, groups, &s[start..end]) {
+    if add(s, names, groups, start, end) == groups {
         return 10;
     }
-    if 64 <= groups {
-        return 10;
-    }
-    add(s, names, groups, start, end);
     0
 }
 

@@ -1,34 +1,47 @@
 use borrow.Author.Needs.{needs}
+use native.Mathlib.Omega.{arith}
 use Rattle.text.specs.Bytes.{part}
-use Rattle.lookup.proofs.Adding.{added}
+use Rattle.lookup.proofs.Ranking.{ranks-by}
+use Rattle.lookup.proofs.Adding.{not-full, old-number, new-number, adds-none, adds-new}
 use Rattle.lookup.proofs.names.add.Statement.{statement}
 use Rattle.lookup.proofs.names.add.Tie as tie
 use Rattle.lookup.proofs.names.make_room.Reads as make-room-reads
+use Rattle.lookup.proofs.names.number_at.Reads as number-at-reads
 use Rattle.lookup.proofs.names.rank_of.Reads as rank-of-reads
 
-sub-rank-of : tie.Need-sub-rank-of
-sub-rank-of c = search needs
+returns : tie.Need-returns
+returns c = adds-none _ _ _ _ _ (not-full _ _ _ _ (c .if1 .taken))
 
-part-rank-of-start : tie.Need-part-rank-of-start
-part-rank-of-start c = search needs
+sub-name : tie.Need-sub-name
+sub-name c = search needs
 
-part-rank-of-end : tie.Need-part-rank-of-end
-part-rank-of-end c = search needs
+part-name-start : tie.Need-part-name-start
+part-name-start c = search needs
+
+part-name-end : tie.Need-part-name-end
+part-name-end c = search needs
 
 rank-of-requires : tie.Need-rank-of-requires
 rank-of-requires c κs = search needs
 
+number-at-requires : tie.Need-number-at-requires
+number-at-requires c κs = search needs
+
+returns-2 : tie.Need-returns-2
+unfolding part
+returns-2 c = adds-none _ _ _ _ _ (old-number _ _ _ _ _ (c .before .number-at .ensures) (c .before .before .before .before .before .before .if1 .left) (c .if2 .taken))
+
 make-room-requires : tie.Need-make-room-requires
-make-room-requires c κs = search needs
+make-room-requires c κs = (ranks-by _ _ _ (c .before .before .before .before .before .before .before .before .before .pre .0) _ _ (c .before .before .before .before .rank-of .ensures) .few, c .before .before .before .before .before .before .before .if1 .left, c .before .before .before .before .before .before .before .before .before .pre .0 .size)
 
 add-table : tie.Need-add-table
-add-table c = search needs
+add-table c = omega (arith, ranks-by _ _ _ (c .before .before .before .before .before .before .before .before .before .before .pre .0) _ _ (c .before .before .before .before .before .rank-of .ensures) .few, c .before .before .before .before .before .before .before .before .if1 .left)
 
 mul-table : tie.Need-mul-table
-mul-table c = search needs
+mul-table c = omega (arith, ranks-by _ _ _ (c .before .before .before .before .before .before .before .before .before .before .pre .0) _ _ (c .before .before .before .before .before .rank-of .ensures) .few, c .before .before .before .before .before .before .before .before .if1 .left)
 
 element-write-table : tie.Need-element-write-table
-element-write-table c = search needs
+element-write-table c = omega (arith, ranks-by _ _ _ (c .before .before .before .before .before .before .before .before .before .before .pre .0) _ _ (c .before .before .before .before .before .rank-of .ensures) .few, c .before .before .before .before .before .before .before .before .if1 .left)
 
 mul-table-2 : tie.Need-mul-table-2
 mul-table-2 c = search needs
@@ -51,18 +64,24 @@ mul-table-5 c = search needs
 element-write-table-3 : tie.Need-element-write-table-3
 element-write-table-3 c = search needs
 
-returns : tie.Need-returns
+add-result : tie.Need-add-result
+add-result c = search needs
+
+returns-3 : tie.Need-returns-3
 unfolding part
-returns c = added _ _ _ _ _ _ _ (c .before .before .before .before .before .before .pre .0) (c .before .before .before .before .before .before .pre .1) (c .before .before .rank-of .ensures) (c .make-room .ensures) (c .before .before .before .before .before .before .pre .4) (c .before .before .before .before .before .before .pre .2) (c .before .before .before .before .before .before .pre .3)
+returns-3 c = adds-new _ _ _ _ _ (new-number _ _ _ _ _ (c .before .before .before .number-at .ensures) (c .before .before .before .before .before .before .before .before .if1 .left) (c .before .before .if2 .left)) _ (c .before .before .before .before .before .rank-of .ensures) _ (c .make-room .ensures)
 
 pub add-spec : {M : Type 1} → statement M
 add-spec =
     tie.close
     (tie.spec
-    sub-rank-of
-    part-rank-of-start
-    part-rank-of-end
+    returns
+    sub-name
+    part-name-start
+    part-name-end
     rank-of-requires
+    number-at-requires
+    returns-2
     make-room-requires
     add-table
     mul-table
@@ -74,4 +93,5 @@ add-spec =
     add-table-2
     mul-table-5
     element-write-table-3
-    returns)
+    add-result
+    returns-3)

@@ -1,17 +1,17 @@
 use borrow.Author.Needs.{needs}
 use Prim.Native.Nat.{_-_}
-use Rattle.lookup.proofs.Adding.{Shifting, shifting-start, shifting-more, shifting-end}
+use Rattle.lookup.proofs.Adding.{Moving, moving-start, moving-more, moving-end}
 use Rattle.lookup.proofs.names.make_room.Statement.{statement}
 use Rattle.lookup.proofs.names.make_room.Tie as tie
 
 abbrev Inv-loop : tie.InvT-loop
-Inv-loop table₀ i n k₀ table k = Shifting table₀ table i n k
+Inv-loop table₀ i n k₀ table k = Moving table₀ table i n k
 
 abbrev μ-loop : tie.MeasureT-loop
 μ-loop table₀ i n k₀ table k = k
 
 loop-holds : tie.Need-loop-holds Inv-loop μ-loop
-loop-holds c = shifting-start _ _ _ (c .pre .0) (c .pre .2)
+loop-holds c = moving-start _ _ _ (c .pre .0) (c .pre .2)
 
 add-table : tie.Need-add-table Inv-loop μ-loop
 add-table c = search needs
@@ -38,10 +38,10 @@ loop-less : tie.Need-loop-less Inv-loop μ-loop
 loop-less c = search needs
 
 loop-again : tie.Need-loop-again Inv-loop μ-loop
-loop-again c = shifting-more _ _ _ _ _ (c .before .before .before .pre .1) (c .before .before .loop .inv) (c .before .loop-test .taken)
+loop-again c = moving-more _ _ _ _ _ (c .before .before .loop .inv) (c .before .loop-test .taken)
 
 returns : tie.Need-returns Inv-loop μ-loop
-returns c = shifting-end _ _ _ _ _ (c .before .loop .inv) (c .loop-test .left)
+returns c = moving-end _ _ _ _ _ (c .before .loop .inv) (c .loop-test .left)
 
 pub make-room-spec : {M : Type 1} → statement M
 make-room-spec =

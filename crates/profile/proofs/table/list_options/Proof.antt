@@ -5,7 +5,7 @@ use Rattle.profile.proofs.Listing.{Listing, listing-start, listing-fiel
 use Rattle.profile.proofs.table.list_options.Statement.{statement}
 use Rattle.profile.proofs.table.list_options.Tie as tie
 use Rattle.profile.proofs.fields.field_end.Reads as field-end-reads
-use Rattle.profile.proofs.table.list_option.Reads as list-option-reads
+use Rattle.lookup.proofs.names.add.Reads as add-reads
 
 abbrev Inv-loop : tie.InvT-loop
 Inv-loop options table₀ count₀ seen₀ start₀ table count seen start = Listing options table count seen start
@@ -22,8 +22,8 @@ returns c = listing-full _ _ _ _ _ (c .before .before .loop .inv) (c .if1 .taken
 field-end-requires : tie.Need-field-end-requires Inv-loop μ-loop
 field-end-requires c κs = search needs
 
-list-option-requires : tie.Need-list-option-requires Inv-loop μ-loop
-list-option-requires c κs = search needs
+add-requires : tie.Need-add-requires Inv-loop μ-loop
+add-requires c κs = search needs
 
 add-seen : tie.Need-add-seen Inv-loop μ-loop
 add-seen c = search needs
@@ -35,7 +35,7 @@ loop-less : tie.Need-loop-less Inv-loop μ-loop
 loop-less c = search needs
 
 loop-again : tie.Need-loop-again Inv-loop μ-loop
-loop-again c = listing-field _ _ _ _ _ (c .before .before .before .before .before .before .loop .inv) _ (c .before .before .before .field-end .ensures) (c .before .before .before .before .if1 .left) (c .before .before .if2 .taken) _ _ (c .list-option .ensures)
+loop-again c = listing-field _ _ _ _ _ (c .before .before .before .before .before .before .loop .inv) _ (c .before .before .before .field-end .ensures) (c .before .before .before .before .if1 .left) (c .before .before .if2 .taken) _ _ (c .add .ensures)
 
 add-start-2 : tie.Need-add-start-2 Inv-loop μ-loop
 add-start-2 c = search needs
@@ -58,7 +58,7 @@ list-options-spec =
     loop-holds
     returns
     field-end-requires
-    list-option-requires
+    add-requires
     add-seen
     add-start
     loop-less
