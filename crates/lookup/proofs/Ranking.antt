@@ -7,7 +7,7 @@ use mathlib.Core.Bool.{Bool, true, false, _||_, cond}
 use lib.Dec.{eqb, ltb}
 use lib.ListN.{getD}
 use borrow.Author.Tests.{eqb-true, eqb-false, ltb-true, ltb-false, lt-ltb}
-use Rattle.text.specs.Bytes.{Text, same, part, anyOf}
+use Rattle.text.specs.Bytes.{Text, same, anyOf}
 use Rattle.text.proofs.Lists.{no, same-eq}
 use Rattle.lookup.specs.Names.{nameAt, namesAt, rankedAt, numberOf, rankOf, mostNames, before, Named}
 use Rattle.lookup.proofs.Ordering.{before-self, before-through}

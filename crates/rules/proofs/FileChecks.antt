@@ -4,7 +4,7 @@ use native.Mathlib.Omega.{arith}
 use mathlib.Core.Path.{_≡_, refl, sym, ap, _∙_}
 use mathlib.Core.List.{List, [], _∷_}
 use mathlib.Core.Bool.{Bool, true, false}
-use lib.ListN.{length, getD, drop, set, drop-of-length-le}
+use lib.ListN.{length, getD, drop, set, drop-of-length-le, length-replicate}
 use lib.Dec.{ltb}
 use native.Mathlib.Numerals.{add-one}
 use borrow.Author.Tests.{lt-ltb, le-ltb, ltb-true, ltb-false}
@@ -12,7 +12,6 @@ use Rattle.text.specs.declared.Refusal.{Refusal}
 use Rattle.text.specs.Limits.{longestFile}
 use Rattle.text.specs.Bytes.{Text, Words}
 use Rattle.text.specs.Refusals.{refusedIf, firstRefusal}
-use Rattle.text.specs.Marks.{marks}
 use Rattle.text.specs.Lines.{Line, lines}
 use Rattle.text.specs.Reading.{follow}
 use Rattle.text.proofs.Positions.{lines-nil}
@@ -23,7 +22,7 @@ use Rattle.rules.specs.Faults.{lineFaults, fileRefusals}
 use Rattle.rules.specs.Names.{definesOf}
 use Rattle.lookup.specs.Names.{namesAt}
 use Rattle.lookup.proofs.Adding.{named-none}
-use Rattle.rules.specs.Checking.{lineOf, atStart, checkFrom, namesFrom, Ready, leftFaults, leftNames, Steps, toHeading, fromHeading, mostHeads, HeadAt, Heads, Lists, Checks}
+use Rattle.rules.specs.Checking.{lineOf, atStart, checkFrom, namesFrom, Ready, leftFaults, leftNames, Steps, toHeading, fromHeading, mostHeads, HeadAt, Heads, Lists, refusedWith, Cleared, Checks}
 use Rattle.rules.proofs.LineChecks.{lines-checked, defines-named}
 
 -- what has been read of the file is right, and the rest is as it was
@@ -65,16 +64,20 @@ first-none = refl
 heads-none : (s u : Text) → length u ≡ 2 * mostHeads → Heads s u 0
 heads-none s u h = record { size = h; few = omega arith; head = λ k (l : k < 0). absurd (omega arith) }
 
-pub long-file : (s t u : Text) → length t ≡ 192 → length u ≡ 2 * mostHeads → longestFile < length s →
-    Checks s t u (record { refusal = record { number = 3; place = 0 }; groups = 0; heads = 0 })
+pub long-file : (s : Text) → longestFile < length s → record { number = 3; place = 0 } ≡ firstRefusal (fileRefusals s)
 unfolding fileRefusals refusedIf firstRefusal
-long-file s t u z y h =
+long-file s h = rw (lt-ltb longestFile (length s) h)
+
+-- a file that is refused
+pub refuses : (s t u : Text) (f : Refusal) → f ≡ firstRefusal (fileRefusals s) → (f .number ≡ 0 → ⊥) → Cleared t u → Checks s t u (refusedWith f)
+refuses s t u f e z c =
     record {
-      refusal = rw (lt-ltb longestFile (length s) h);
-      named = named-none s t z;
-      names = λ (e : _≡_ {A = ℕ} 3 0). absurd (omega arith);
-      heads = heads-none s u y;
-      all = λ (e : _≡_ {A = ℕ} 3 0) l. absurd (omega arith);
+      refusal = e;
+      named = named-none s t (ap length (c .names) ∙ length-replicate {A = ℕ} 192 0);
+      names = λ y. absurd (z y);
+      heads = heads-none s u (ap length (c .heads) ∙ length-replicate {A = ℕ} (2 * mostHeads) 0);
+      all = λ y l. absurd (z y);
+      refused = λ y. (ap refusedWith e, c);
     }
 
 -- the headings, listed
@@ -172,6 +175,7 @@ module _ (s t : Text) (p : Progress) (v : Scanning s t p) where
         names = λ z. sym (v .names ∙ e .1);
         heads = x .heads;
         all = λ z k. x .next k ∙ (rw (no-lines s (p .at) (p .line) h) to-none);
+        refused = λ z. absurd (z refl);
       }
 
   module _ (t′ : Text) (r : Progress) (w : Steps s t t′ p r) where
@@ -180,13 +184,5 @@ module _ (s t : Text) (p : Progress) (v : Scanning s t p) where
         let o = w .right z in
         record { ready = o .ready; faults = v .faults ∙ o .faults; names = v .names ∙ o .names }
 
-    pub scan-wrong : (u : Text) → length u ≡ 2 * mostHeads → length s ≤ longestFile → (r .fault ≡ 0 → ⊥) →
-        Checks s t′ u (record { refusal = record { number = r .fault; place = p .line }; groups = 0; heads = 0 })
-    scan-wrong u y l z =
-        record {
-          refusal = sym (ap firstRefusal (short-file s l ∙ v .faults) ∙ w .wrong z);
-          named = named-none s t′ (w .size);
-          names = λ e. absurd (z e);
-          heads = heads-none s u y;
-          all = λ e k. absurd (z e);
-        }
+    pub scan-wrong : length s ≤ longestFile → (r .fault ≡ 0 → ⊥) → record { number = r .fault; place = p .line } ≡ firstRefusal (fileRefusals s)
+    scan-wrong l z = sym (ap firstRefusal (short-file s l ∙ v .faults) ∙ w .wrong z)

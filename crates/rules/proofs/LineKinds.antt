@@ -1,14 +1,13 @@
 -- What a split line is: one law for each way.
 use Prim.Native.Nat.{ℕ, _+_, _-_, _≤_, _<_}
 use native.Mathlib.Omega.{arith}
-use mathlib.Core.Path.{_≡_, refl, sym, ap, _∙_}
+use mathlib.Core.Path.{_≡_, refl, sym, _∙_}
 use mathlib.Core.List.{[], _∷_, map}
 use mathlib.Core.Bool.{Bool, true, false, not, _&&_, cond}
 use lib.ListN.{length, getD, drop}
 use lib.Dec.{eqb}
 use borrow.Author.Tests.{eq-eqb, ne-eqb}
 use Rattle.text.specs.Bytes.{Text, Words, bytes, same, empty, rest, allOf, anyOf}
-use Rattle.text.specs.Lines.{Line}
 use Rattle.text.specs.Words.{wordsFault}
 use Rattle.text.proofs.Lists.{no}
 use Rattle.rules.specs.declared.Tally.{Tally}

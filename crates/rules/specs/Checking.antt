@@ -3,7 +3,7 @@ use Prim.Native.Nat.{ℕ, zero, suc, _+_, _*_, _≤_, _<_}
 use mathlib.Core.Path.{_≡_}
 use mathlib.Core.List.{List, [], _∷_, _++_}
 use mathlib.Core.Bool.{Bool, true, false, _||_, _&&_, cond}
-use lib.ListN.{length, getD, drop, set}
+use lib.ListN.{length, getD, drop, set, replicate}
 use lib.Dec.{eqb, ltb, leb}
 use Rattle.text.specs.declared.Refusal.{Refusal}
 use Rattle.text.specs.Limits.{mostGroups}
@@ -168,6 +168,14 @@ pub record Lists (t t′ : List ℕ) (n : ℕ) (h : Bool) (a m r : ℕ) : Type 0
   pub table : t′ ≡ cond (h && ltb n mostHeads) (set (set t (2 * n) a) (2 * n + 1) m) t
   pub count : r ≡ cond (h && ltb n mostHeads) (n + 1) n
 
+-- a file that is refused: nothing is listed, and both tables are all zero
+abbrev pub refusedWith : Refusal → Checked
+refusedWith f = record { refusal = f; groups = 0; heads = 0 }
+
+pub record Cleared (t u : List ℕ) : Type 0 where
+  pub names : t ≡ replicate 192 0
+  pub heads : u ≡ replicate (2 * mostHeads) 0
+
 -- What a check promises: the first refusal of the file; and, where there is none, where the names of its groups stand, and where its headings, all of them
 -- if the table has room for more.
 pub record Checks (s t u : Text) (r : Checked) : Type 0 where
@@ -176,3 +184,4 @@ pub record Checks (s t u : Text) (r : Checked) : Type 0 where
   pub names : r .refusal .number ≡ 0 → namesAt s t (r .groups) ≡ definesOf s
   pub heads : Heads s u (r .heads)
   pub all : r .refusal .number ≡ 0 → r .heads < mostHeads → fromHeading (r .heads) (lines s) ≡ []
+  pub refused : (r .refusal .number ≡ 0 → ⊥) → (r ≡ refusedWith (firstRefusal (fileRefusals s))) × Cleared t u

@@ -1,14 +1,10 @@
 // The check of a whole file: one walk over its lines.
 ghost use mathlib.Core.Path.{_≡_};
-ghost use mathlib.Core.Bool.{cond, _||_};
-ghost use Prim.Native.Nat.{_≤_, _<_, _+_, _-_};
-ghost use lib.Dec.{leb};
+ghost use Prim.Native.Nat.{_≤_, _<_, _-_};
 ghost use lib.ListN.{length};
-ghost use Rattle.text.specs.Bytes.{same as sameText, anyOf, part};
 ghost use Rattle.text.specs.Reading.{Table, Fenced};
 ghost use Rattle.lookup.specs.Names.{Named};
-ghost use Rattle.rules.specs.Splitting.{wordsOf, IsSplit};
-ghost use Rattle.rules.specs.Checking.{atStart, Adds, Ready, Steps, Lists, Checks};
+ghost use Rattle.rules.specs.Checking.{atStart, refusedWith, Adds, Ready, Steps, Lists, Cleared, Checks};
 use super::Checked;
 use super::LineKind;
 use super::Present;
@@ -23,6 +19,7 @@ use text::reader::fence_of;
 use text::reader::open_line;
 use text::table::TABLE;
 
+// No set has begun: a rule here is refused.
 pub const NO_HEADING: Present = Present {
     form: 0,
     left: 0,
@@ -152,22 +149,33 @@ fn list_heading(heads: &mut [usize; 256], n: usize, heading: bool, at: usize, li
     n + 1
 }
 
+// The answer for a file that is refused: both tables are all zero.
+fn refuse(
+    names: &mut [usize; 192],
+    heads: &mut [usize; 256],
+    number: usize,
+    place: usize,
+) -> Checked
+    ensures { λ r. ⌜ (r ≡ refusedWith (record { number = number; place = place })) × Cleared (now (names .exit)) (now (heads .exit)) ⌝ }
+{
+    *names = [0; 192];
+    *heads = [0; 256];
+    Checked {
+        refusal: Refusal { number, place },
+        groups: 0,
+        heads: 0,
+    }
+}
+
 // The first refusal of a file, 3 to 10, or number 0; where the names of its groups stand, and where its first headings.
 pub fn check_file(s: &[u8], names: &mut [usize; 192], heads: &mut [usize; 256]) -> Checked
     ensures { λ r. ⌜ Checks (now (s .entry)) (now (names .exit)) (now (heads .exit)) r ⌝ }
 {
+    if 65536 < s.len() {
+        return refuse(names, heads, 3, 0);
+    }
     *names = [0; 192];
     *heads = [0; 256];
-    if 65536 < s.len() {
-        return Checked {
-            refusal: Refusal {
-                number: 3,
-                place: 0,
-            },
-            groups: 0,
-            heads: 0,
-        };
-    }
     let t = TABLE;
     let fence = fence_of(s);
     let mut places: [usize; 20] = [0; 20];
@@ -176,14 +184,7 @@ pub fn check_file(s: &[u8], names: &mut [usize; 192], heads: &mut [usize; 256]) 
     while p.at < s.len() {
         let q = check_line(s, &t, fence, &mut places, names, p);
         if q.fault != 0 {
-            return Checked {
-                refusal: Refusal {
-                    number: q.fault,
-                    place: p.line,
-                },
-                groups: 0,
-                heads: 0,
-            };
+            return refuse(names, heads, q.fault, p.line);
         }
         listed = list_heading(heads, listed, q.heading, p.at, p.line);
         p = q;

@@ -1,5 +1,4 @@
 use borrow.Author.Needs.{needs}
-use Prim.Native.Nat.{_-_}
 use Rattle.lookup.proofs.Adding.{Moving, moving-start, moving-more, moving-end}
 use Rattle.lookup.proofs.names.make_room.Statement.{statement}
 use Rattle.lookup.proofs.names.make_room.Tie as tie

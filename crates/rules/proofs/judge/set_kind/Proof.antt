@@ -1,12 +1,11 @@
 use borrow.Author.Needs.{needs}
 use native.Mathlib.Omega.{arith}
-use mathlib.Core.Path.{sym, ap, _∙_}
+use mathlib.Core.Path.{sym, _∙_}
 use borrow.Author.Tests.{not-true, not-false}
 use Rattle.rules.specs.Splitting.{wordsOf}
 use Rattle.rules.specs.Checking.{IsKind}
 use Rattle.rules.proofs.LineKinds.{is-wrong, set-nothing, set-ends, set-again, set-shaped, set-bad, set-line, first-count}
 use Rattle.rules.proofs.Sides.{too-many}
-use borrow.Author.Needs.{needs}
 use Rattle.rules.proofs.judge.set_kind.Statement.{statement}
 use Rattle.rules.proofs.judge.set_kind.Tie as tie
 use Rattle.rules.proofs.judge.present_by.Reads as present-by-reads
