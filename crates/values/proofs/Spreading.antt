@@ -2,11 +2,11 @@
 use Prim.Native.Nat.{ℕ, _+_, _*_, _-_, _≤_, _<_}
 use native.Mathlib.Omega.{arith}
 use mathlib.Core.Path.{_≡_, refl, sym, ap, _∙_}
-use mathlib.Core.List.{[], _∷_, _++_, append-nil}
-use lib.ListN.{length, take, drop, length-append, length-take, length-drop}
+use mathlib.Core.List.{[], _∷_, _++_, append-nil, append-assoc}
+use lib.ListN.{length, take, drop, set, length-append, length-set, length-take, length-drop}
 use Rattle.text.specs.Bytes.{Text, part, concatMap}
-use Rattle.output.specs.Store.{farthest, past, Wrote}
-use Rattle.output.proofs.Stores.{stored-behind, wrote-none}
+use Rattle.output.specs.Store.{stored, farthest, past, Wrote}
+use Rattle.output.proofs.Stores.{stored-append, length-stored, stored-behind, wrote-none, wrote-then}
 use Rattle.rules.specs.Headings.{decimal}
 use Rattle.profile.proofs.Listing.{length-part}
 use Rattle.values.specs.Spread.{cuts, copies, spread}
@@ -48,27 +48,46 @@ pub record Spreading (t : Text) (n : ℕ) (d d′ : Text) (at i o : ℕ) : Type 
 pub spreading-start : (t : Text) (n : ℕ) (d : Text) (at : ℕ) → length d ≤ farthest → at ≤ farthest → Spreading t n d d at 0 at
 spreading-start t n d at l h = record { high = omega arith; left = writing-start d at (concatMap (spread n) (cuts t)) l h }
 
-module _ (t : Text) (n : ℕ) (d d′ : Text) (at i o : ℕ) (v : Spreading t n d d′ at i o) (c : ℕ) (f : FirstAll t i c) (d₁ : Text) (o₁ : ℕ) (w : Wrote d′ d₁ o (part t i c) o₁) where
-  pub spreading-end : length t ≤ c → Wrote d d₁ at (concatMap (spread n) (cuts t)) o₁
-  spreading-end h =
+module _ (t : Text) (n : ℕ) (d d′ : Text) (at i o : ℕ) (v : Spreading t n d d′ at i o) (c : ℕ) (f : FirstAll t i c) (d₁ : Text) (o₁ : ℕ) where
+  pub spreading-end : length t ≤ c → Wrote d′ d₁ o (part t i c) o₁ → Wrote d d₁ at (concatMap (spread n) (cuts t)) o₁
+  spreading-end h w =
       let e : concatMap (spread n) (cuts (drop i t)) ≡ part t i c ++ [] = kept-last t i c f n h ∙ sym (append-nil (part t i c)) in
       writing-end d d₁ at (concatMap (spread n) (cuts t)) o₁ (writing-more d d′ at (concatMap (spread n) (cuts t)) o (part t i c) [] d₁ o₁ (rw e at (v .left)) w)
 
-  module _ (m : c < length t) (some : 1 ≤ n) where
-    -- what is left behind the bytes that stay: the end of the first copy, the other copies, and the pieces after them
-    pub spreading-first : Writing d d₁ at (concatMap (spread n) (cuts t)) o₁ ((58 ∷ decimal 1) ++ (moreCopies n t i c ++ concatMap (spread n) (cuts (drop (c + 4) t))))
-    spreading-first = writing-more d d′ at (concatMap (spread n) (cuts t)) o (part t i c) _ d₁ o₁ (rw (kept-copies t i c f m n some) at (v .left)) w
+  module _ (m : c < length t) (some : 1 ≤ n) (w : Wrote d′ d₁ o (part t i c ++ (58 ∷ decimal 1)) o₁) where
+    -- what is left behind the first copy: the other copies, and the pieces after them
+    pub spreading-copies : Writing d d₁ at (concatMap (spread n) (cuts t)) o₁ (moreCopies n t i c ++ concatMap (spread n) (cuts (drop (c + 4) t)))
+    spreading-copies =
+        let r = moreCopies n t i c ++ concatMap (spread n) (cuts (drop (c + 4) t)) in
+        let e : concatMap (spread n) (cuts (drop i t)) ≡ (part t i c ++ (58 ∷ decimal 1)) ++ r =
+        kept-copies t i c f m n some ∙ sym (append-assoc (part t i c) (58 ∷ decimal 1) r) in
+        writing-more d d′ at (concatMap (spread n) (cuts t)) o (part t i c ++ (58 ∷ decimal 1)) r d₁ o₁ (rw e at (v .left)) w
 
-    module _ (d₂ : Text) (o₂ : ℕ) (x : Wrote d₁ d₂ o₁ (58 ∷ decimal 1) o₂) where
-      pub spreading-copies : Writing d d₂ at (concatMap (spread n) (cuts t)) o₂ (moreCopies n t i c ++ concatMap (spread n) (cuts (drop (c + 4) t)))
-      spreading-copies = writing-more d d₁ at (concatMap (spread n) (cuts t)) o₁ (58 ∷ decimal 1) _ d₂ o₂ spreading-first x
+    pub spreading-more : (d₂ : Text) (o₂ : ℕ) → Wrote d₁ d₂ o₁ (moreCopies n t i c) o₂ → Spreading t n d d₂ at (c + 4) o₂
+    spreading-more d₂ o₂ y =
+        record {
+          high = long t i c f m;
+          left = writing-more d d₁ at (concatMap (spread n) (cuts t)) o₁ (moreCopies n t i c) _ d₂ o₂ spreading-copies y;
+        }
 
-      pub spreading-more : (d₃ : Text) (o₃ : ℕ) → Wrote d₂ d₃ o₂ (moreCopies n t i c) o₃ → Spreading t n d d₃ at (c + 4) o₃
-      spreading-more d₃ o₃ y =
-          record {
-            high = long t i c f m;
-            left = writing-more d d₂ at (concatMap (spread n) (cuts t)) o₂ (moreCopies n t i c) _ d₃ o₃ spreading-copies y;
-          }
+pub first-inside : (d d₁ x : Text) (a n : ℕ) → d₁ ≡ stored d a x → a + n + 2 ≤ length d → a + n + 1 < length (set d₁ (a + n) 58)
+first-inside d d₁ x a n e h = omega (arith, length-set d₁ (a + n) 58, ap length e, length-stored d a x)
+
+-- the first copy, where there is room for it and where there is none
+module _ (d : Text) (t : Text) (i c at : ℕ) (l : i ≤ c) (h : c ≤ length t) where
+  pub first-wrote : (d₁ : Text) (a r : ℕ) → a ≡ at → d₁ ≡ stored d a (part t i c) → r ≡ past at (c - i + 2) →
+      Wrote d (set (set d₁ (a + (c - i)) 58) (a + (c - i) + 1) 49) at (part t i c ++ (58 ∷ decimal 1)) r
+  unfolding stored decimal
+  first-wrote d₁ a r e x y =
+      let z : length (part t i c) ≡ c - i = length-part t i c l h in
+      record {
+        text = sym (stored-append d at (part t i c) (58 ∷ decimal 1) ∙ rw (z, x, e));
+        next = y ∙ ap (past at) (sym (length-append (part t i c) (58 ∷ decimal 1) ∙ rw z));
+      }
+
+  pub first-then : (d₁ d₂ : Text) (a r : ℕ) → length d ≤ farthest → Wrote d d₁ at (part t i c) a → Wrote d₁ d₂ a (58 ∷ decimal 1) r →
+      Wrote d d₂ at (part t i c ++ (58 ∷ decimal 1)) r
+  first-then d₁ d₂ a r m u v = wrote-then d d₁ d₂ at (part t i c) (58 ∷ decimal 1) a r m u v
 
 -- behind the buffer's end
 pub spread-behind : (d : Text) (t : Text) (n at i m r : ℕ) → i ≡ at → length d ≤ i → m ≡ length (concatMap (spread n) (cuts t)) → r ≡ past at m →

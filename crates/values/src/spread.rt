@@ -1,9 +1,9 @@
 // `:all`: a value cut before its signs, and each piece that ends with `:all` as copies.
 ghost use mathlib.Core.Path.{_≡_};
-ghost use mathlib.Core.List.{_∷_};
+ghost use mathlib.Core.List.{_∷_, _++_};
 ghost use Prim.Native.Nat.{_+_, _-_, _≤_, _<_};
 ghost use lib.ListN.{length, drop, getD};
-ghost use Rattle.text.specs.Bytes.{concatMap};
+ghost use Rattle.text.specs.Bytes.{part, concatMap};
 ghost use Rattle.output.specs.Store.{farthest, Wrote};
 ghost use Rattle.rules.specs.Headings.{decimal};
 ghost use Rattle.values.specs.Spread.{isSign, signed, cuts, copy, copies, spread};
@@ -198,6 +198,23 @@ fn spread_length(t: &[u8], n: usize) -> usize
     }
 }
 
+// Writes what stands from i up to the `:all` at c, and `:1` for it: the first copy ends with this.
+fn put_first(t: &[u8], i: usize, c: usize, out: &mut [u8], at: u32) -> u32
+    requires { ⌜ (i ≤ c) × (c ≤ length (now t)) × (length (now out) ≤ farthest) × (at ≤ farthest) ⌝ }
+    ensures { λ r. ⌜ Wrote (now (out .entry)) (now (out .exit)) at (part (now (t .entry)) i c ++ (58 ∷ decimal 1)) r ⌝ }
+{
+    let a = output::wide(at);
+    let n = c - i;
+    if a + n + 2 <= out.len() {
+        output::copy(t, i, c, out, a);
+        out[a + n] = b':';
+        out[a + n + 1] = b'1';
+        return output::past(at, n + 2);
+    }
+    let e = output::put_part(t, i, c, out, at);
+    put_end(1, out, e)
+}
+
 // Writes a filled value with its `:all` spread over n layouts. The first copy of a piece stands as the piece does, but for its end. Behind the buffer's end all is
 // counted alone.
 pub fn put_spread(t: &[u8], n: usize, out: &mut [u8], at: u32) -> u32
@@ -211,11 +228,10 @@ pub fn put_spread(t: &[u8], n: usize, out: &mut [u8], at: u32) -> u32
     let mut o: u32 = at;
     loop {
         let c = find_all(t, i);
-        o = write::put_text(&t[i..c], out, o);
         if t.len() <= c {
-            return o;
+            return output::put_part(t, i, c, out, o);
         }
-        o = put_end(1, out, o);
+        o = put_first(t, i, c, out, o);
         o = put_more(t, i, c, n, out, o);
         i = c + 4;
     }

@@ -3,17 +3,16 @@ use native.Mathlib.Omega.{arith}
 use Prim.Native.Nat.{_-_}
 use mathlib.Core.Path.{_∙_}
 use lib.ListN.{length}
-use Rattle.text.specs.Bytes.{part}
-use Rattle.values.proofs.Spreading.{Spreading, spreading-start, spreading-end, spreading-first, spreading-copies, spreading-more, spread-behind}
+use Rattle.values.proofs.Spreading.{Spreading, spreading-start, spreading-end, spreading-copies, spreading-more, spread-behind}
 use Rattle.values.proofs.spread.put_spread.Statement.{statement}
 use Rattle.values.proofs.spread.put_spread.Tie as tie
 use Rattle.values.proofs.spread.put_spread.Reads as reads
 use Rattle.values.proofs.spread.put_spread.Lts as lts
 use Rattle.output.proofs.past.Reads as past-reads
+use Rattle.output.proofs.put_part.Reads as put-part-reads
 use Rattle.output.proofs.wide.Reads as wide-reads
 use Rattle.values.proofs.spread.find_all.Reads as find-all-reads
-use Rattle.values.proofs.spread.put_end.Reads as put-end-reads
-use Rattle.values.proofs.write.put_text.Reads as put-text-reads
+use Rattle.values.proofs.spread.put_first.Reads as put-first-reads
 use Rattle.values.proofs.spread.put_more.Reads as put-more-reads
 use Rattle.values.proofs.spread.spread_length.Reads as spread-length-reads
 
@@ -41,42 +40,29 @@ loop-holds c = spreading-start _ _ _ _ (c .before .before .before .before .pre .
 find-all-requires : tie.Need-find-all-requires Inv-loop μ-loop
 find-all-requires c κs = search needs
 
-sub-put-text : tie.Need-sub-put-text Inv-loop μ-loop
-sub-put-text c = c .find-all .ensures .free .low
-
-part-put-text-start : tie.Need-part-put-text-start Inv-loop μ-loop
-part-put-text-start c = c .find-all .ensures .free .low
-
-part-put-text-end : tie.Need-part-put-text-end Inv-loop μ-loop
-part-put-text-end c = c .find-all .ensures .free .high
-
-put-text-requires : tie.Need-put-text-requires Inv-loop μ-loop
-put-text-requires c κs = search needs
+put-part-requires : tie.Need-put-part-requires Inv-loop μ-loop
+put-part-requires c κs = (c .before .before .find-all .ensures .free .low, c .before .before .find-all .ensures .free .high)
 
 same-length : tie.Need-same-length Inv-loop μ-loop
-same-length c = c .before .before .before .put-text .kept .1 .0 ∙ c .before .before .before .before .before .before .before .loop .inv .left .long
+same-length c = c .before .before .put-part .kept .1 .1 .1 .0 ∙ c .before .before .before .before .before .before .loop .inv .left .long
 
 returns-2 : tie.Need-returns-2 Inv-loop μ-loop
-unfolding part
-returns-2 c = spreading-end _ _ _ _ _ _ _ (c .before .before .before .before .before .before .before .loop .inv) _ (c .before .before .before .before .before .before .find-all .ensures) _ _ (c .before .before .before .put-text .ensures) (c .if2 .taken)
+returns-2 c = spreading-end _ _ _ _ _ _ _ (c .before .before .before .before .before .before .loop .inv) _ (c .before .before .before .before .before .find-all .ensures) _ _ (c .before .before .before .before .if2 .taken) (c .before .before .put-part .ensures)
 
-put-end-requires : tie.Need-put-end-requires Inv-loop μ-loop
-unfolding part
-put-end-requires c κs = let w = spreading-first _ _ _ _ _ _ _ (c .before .before .before .before .before .before .before .before .loop .inv) _ (c .before .before .before .before .before .before .before .find-all .ensures) _ _ (c .before .before .before .before .put-text .ensures) (c .before .if2 .left) (c .before .before .before .before .before .before .before .before .before .before .before .before .before .pre .0) in (omega arith, omega (arith, w .long, c .before .before .before .before .before .before .before .before .before .before .before .before .before .pre .3))
+put-first-requires : tie.Need-put-first-requires Inv-loop μ-loop
+put-first-requires c κs = (c .before .before .find-all .ensures .free .low, c .before .before .find-all .ensures .free .high, omega (arith, c .before .before .before .loop .inv .left .long, c .before .before .before .before .before .before .before .before .pre .3), c .before .before .before .loop .inv .left .low)
 
 put-more-requires : tie.Need-put-more-requires Inv-loop μ-loop
-unfolding part
-put-more-requires c κs = let w = spreading-copies _ _ _ _ _ _ _ (c .before .before .before .before .before .before .before .before .before .before .before .before .loop .inv) _ (c .before .before .before .before .before .before .before .before .before .before .before .find-all .ensures) _ _ (c .before .before .before .before .before .before .before .before .put-text .ensures) (c .before .before .before .before .before .if2 .left) (c .before .before .before .before .before .before .before .before .before .before .before .before .before .before .before .before .before .pre .0) _ _ (c .before .before .before .put-end .ensures) in (c .before .before .before .before .before .before .before .before .before .before .before .find-all .ensures .free .low, c .before .before .before .before .before .if2 .left, c .before .before .before .before .before .before .before .before .before .before .before .before .before .before .before .before .before .pre .0, c .before .before .before .before .before .before .before .before .before .before .before .before .before .before .before .before .before .pre .1, omega (arith, w .long, c .before .before .before .before .before .before .before .before .before .before .before .before .before .before .before .before .before .pre .3), w .low)
+put-more-requires c κs = let w = spreading-copies _ _ _ _ _ _ _ (c .before .before .before .before .before .before .before .loop .inv) _ (c .before .before .before .before .before .before .find-all .ensures) _ _ (c .before .before .before .before .before .if2 .left) (c .before .before .before .before .before .before .before .before .before .before .before .before .pre .0) (c .before .before .before .put-first .ensures) in (c .before .before .before .before .before .before .find-all .ensures .free .low, c .before .before .before .before .before .if2 .left, c .before .before .before .before .before .before .before .before .before .before .before .before .pre .0, c .before .before .before .before .before .before .before .before .before .before .before .before .pre .1, omega (arith, w .long, c .before .before .before .before .before .before .before .before .before .before .before .before .pre .3), w .low)
 
 add-i : tie.Need-add-i Inv-loop μ-loop
-add-i c = omega (arith, c .before .before .before .before .before .before .before .before .before .before .before .before .before .before .find-all .ensures .free .high, c .before .before .before .before .before .before .before .before .before .before .before .before .before .before .before .before .before .before .before .before .pre .2)
+add-i c = omega (arith, c .before .before .before .before .before .before .before .before .before .find-all .ensures .free .high, c .before .before .before .before .before .before .before .before .before .before .before .before .before .before .before .pre .2)
 
 loop-less : tie.Need-loop-less Inv-loop μ-loop
-loop-less c = omega (arith, c .before .before .before .before .before .before .before .before .before .before .before .before .before .before .find-all .ensures .free .low, c .before .before .before .before .before .before .before .before .if2 .left)
+loop-less c = omega (arith, c .before .before .before .before .before .before .before .before .before .find-all .ensures .free .low, c .before .before .before .before .before .before .before .before .if2 .left)
 
 loop-again : tie.Need-loop-again Inv-loop μ-loop
-unfolding part
-loop-again c = spreading-more _ _ _ _ _ _ _ (c .before .before .before .before .before .before .before .before .before .before .before .before .before .before .before .loop .inv) _ (c .before .before .before .before .before .before .before .before .before .before .before .before .before .before .find-all .ensures) _ _ (c .before .before .before .before .before .before .before .before .before .before .before .put-text .ensures) (c .before .before .before .before .before .before .before .before .if2 .left) (c .before .before .before .before .before .before .before .before .before .before .before .before .before .before .before .before .before .before .before .before .pre .0) _ _ (c .before .before .before .before .before .before .put-end .ensures) _ _ (c .before .before .put-more .ensures)
+loop-again c = spreading-more _ _ _ _ _ _ _ (c .before .before .before .before .before .before .before .before .before .before .loop .inv) _ (c .before .before .before .before .before .before .before .before .before .find-all .ensures) _ _ (c .before .before .before .before .before .before .before .before .if2 .left) (c .before .before .before .before .before .before .before .before .before .before .before .before .before .before .before .pre .0) (c .before .before .before .before .before .before .put-first .ensures) _ _ (c .before .before .put-more .ensures)
 
 pub put-spread-spec : {M : Type 1} → statement M
 put-spread-spec =
@@ -90,13 +76,10 @@ put-spread-spec =
     returns
     loop-holds
     find-all-requires
-    sub-put-text
-    part-put-text-start
-    part-put-text-end
-    put-text-requires
+    put-part-requires
     same-length
     returns-2
-    put-end-requires
+    put-first-requires
     put-more-requires
     add-i
     loop-less
