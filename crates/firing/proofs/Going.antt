@@ -118,9 +118,11 @@ module _ (c : ℕ) (v d : Text) (q : Cursors) where
       z : ltb c 5 ≡ true
       z = lt-ltb c 5 (omega arith)
 
-      pub fire-add : (d′ : Text) (q′ : Cursors) → signed v ≡ true → PutAt d d′ q q′ (2 * c + 1) v → FiredOne d d′ q q′ c v
+      pub fire-add : (r : ℕ) (s : Bool) → r ≡ cond s (2 * c + 1) (2 * c) → s ≡ true → (d′ : Text) (q′ : Cursors) → signed v ≡ true → PutAt d d′ q q′ r v →
+          FiredOne d d′ q q′ c v
       unfolding fireCur fireBuf putCur putBuf
-      fire-add d′ q′ g w =
+      fire-add r s n t d′ q′ g x =
+          let w : PutAt d d′ q q′ (2 * c + 1) v = rw (n, t) at x in
           record {
             bytes = λ l k. w .bytes ∙ rw (one-fires l k c v e, run-buf, not-full q room, z, g, run-buf-nil);
             places = λ l k. w .places ∙ rw (one-fires l k c v e, run-cur, not-full q room, z, g, run-cur-nil);
@@ -134,14 +136,20 @@ module _ (c : ℕ) (v d : Text) (q : Cursors) where
             places = λ l k. rw (one-fires l k c v e, run-cur, not-full q room, z, g, b, run-cur-nil);
           }
 
-      pub fire-base : (d′ : Text) (q′ : Cursors) → signed v ≡ false → getD (q .based) c false ≡ false → PutAt d d′ q q′ (2 * c) v →
-          FiredOne d d′ q (basedAt c q′) c v
+      pub fire-base : (r : ℕ) (s : Bool) → r ≡ cond s (2 * c + 1) (2 * c) → s ≡ false → (d′ : Text) (q′ : Cursors) → signed v ≡ false → getD (q .based) c false ≡ false →
+          PutAt d d′ q q′ r v → FiredOne d d′ q (basedAt c q′) c v
       unfolding fireCur fireBuf putCur putBuf
-      fire-base d′ q′ g b w =
+      fire-base r s n t d′ q′ g b x =
+          let w : PutAt d d′ q q′ (2 * c) v = rw (n, t) at x in
           record {
             bytes = λ l k. w .bytes ∙ rw (one-fires l k c v e, run-buf, not-full q room, z, g, b, run-buf-nil);
             places = λ l k. rw (w .places, one-fires l k c v e, run-cur, not-full q room, z, g, b, run-cur-nil);
           }
+
+-- there are ten regions
+pub region-low : (c r : ℕ) (s : Bool) → c ≤ 4 → r ≡ cond s (2 * c + 1) (2 * c) → r < 10
+region-low c r true h e = omega arith
+region-low c r false h e = omega arith
 
 -- a position moved on
 pub moves-on : (d d′ : Text) (p r : ℕ) (v : Text) → p ≤ farthest → Wrote d d′ p v r → (p ≤ r) × (r ≤ farthest)

@@ -1,29 +1,28 @@
 // Values fired into ten regions of one lent buffer, through ten cursors.
 ghost use mathlib.Core.Path.{_≡_};
-ghost use Prim.Native.Nat.{_≤_, _<_};
+ghost use mathlib.Core.Bool.{cond};
+ghost use Prim.Native.Nat.{_+_, _*_, _≤_, _<_};
 ghost use lib.ListN.{length};
 ghost use Rattle.text.specs.Limits.{longestTotal};
 ghost use Rattle.text.specs.Bytes.{concatMap};
 ghost use Rattle.output.specs.Store.{farthest};
 ghost use Rattle.values.specs.Spread.{cuts, spread};
 ghost use Rattle.answers.specs.Answer.{sum};
-ghost use Rattle.firing.specs.Writing.{PutAt, FiredOne, Low, starts};
+ghost use Rattle.firing.specs.Writing.{FiredOne, Low, starts};
 use super::Cursors;
 use super::Sums;
 use values::spread::is_signed;
 use values::spread::put_spread;
 
-// Writes a value at the position of region r, which moves on.
-fn put_at(t: &[u8], n: usize, r: usize, buf: &mut [u8], q: Cursors) -> Cursors
-    requires { ⌜ (1 ≤ n) × (n < 10) × (length (now t) ≤ farthest) × (length (now buf) ≤ farthest) × (r < 10) × Low (q .at) × (q .total ≤ longestTotal) ⌝ }
-    ensures { λ m. ⌜ PutAt (now (buf .entry)) (now (buf .exit)) q m r (concatMap (spread n) (cuts (now (t .entry)))) ⌝ }
+// The region that a value of a component is written into.
+fn region(component: usize, addition: bool) -> usize
+    requires { ⌜ component ≤ 4 ⌝ }
+    ensures { λ r. ⌜ r ≡ cond addition (2 * component + 1) (2 * component) ⌝ }
 {
-    let from = q.at[r];
-    let p = put_spread(t, n, buf, from);
-    let mut next = q;
-    next.at[r] = p;
-    next.total = q.total + (p - from);
-    next
+    if addition {
+        return 2 * component + 1;
+    }
+    2 * component
 }
 
 // A value of a component fires: `t` is its text with the profile's values put in, `n` the number of layouts.
@@ -37,13 +36,19 @@ pub fn fire(t: &[u8], n: usize, component: usize, buf: &mut [u8], q: Cursors) ->
     if t.len() == 0 {
         return q;
     }
-    if is_signed(t) {
-        return put_at(t, n, 2 * component + 1, buf, q);
-    }
-    if q.based[component] {
+    let addition = is_signed(t);
+    if !addition && q.based[component] {
         return q;
     }
-    let mut next = put_at(t, n, 2 * component, buf, q);
+    let r = region(component, addition);
+    let from = q.at[r];
+    let p = put_spread(t, n, buf, from);
+    let mut next = q;
+    next.at[r] = p;
+    next.total = q.total + (p - from);
+    if addition {
+        return next;
+    }
     next.based[component] = true;
     next
 }

@@ -1,14 +1,20 @@
 use borrow.Author.Needs.{needs}
+use borrow.Author.Tests.{not-true, not-false}
 use native.Mathlib.Omega.{arith}
-use Rattle.firing.proofs.Going.{fire-over, fire-nothing, fire-add, fire-skip, fire-base}
+use mathlib.Core.Logic.{⊎-elim}
+use mathlib.Core.Path.{sym, _∙_}
+use Rattle.text.proofs.Lists.{no}
 use Rattle.firing.specs.Writing.{basedAt}
+use Rattle.firing.proofs.Regions.{low-at}
+use Rattle.firing.proofs.Going.{fire-over, fire-nothing, fire-add, fire-skip, fire-base, region-low, moves-on, put-moved}
 use Rattle.firing.proofs.Beginnings.{none-spread, some-spread, sign-spread}
 use Rattle.firing.proofs.writing.fire.Statement.{statement}
 use Rattle.firing.proofs.writing.fire.Tie as tie
 use Rattle.firing.proofs.writing.fire.Reads as reads
 use Rattle.firing.proofs.writing.fire.Lts as lts
-use Rattle.firing.proofs.writing.put_at.Reads as put-at-reads
+use Rattle.firing.proofs.writing.region.Reads as region-reads
 use Rattle.values.proofs.spread.is_signed.Reads as is-signed-reads
+use Rattle.values.proofs.spread.put_spread.Reads as put-spread-reads
 
 returns : tie.Need-returns
 returns c = fire-over _ _ _ _ (c .before .before .before .pre .5) (c .if1 .taken)
@@ -19,42 +25,51 @@ returns-2 c = fire-nothing _ _ _ _ (none-spread _ _ (c .before .before .before .
 is-signed-requires : tie.Need-is-signed-requires
 is-signed-requires c κs = search needs
 
-mul-put-at : tie.Need-mul-put-at
-mul-put-at c = search needs
+element-copy-out-if4 : tie.Need-element-copy-out-if4
+element-copy-out-if4 c = search needs
 
-add-put-at : tie.Need-add-put-at
-add-put-at c = search needs
+returns-3 : tie.Need-returns-3
+returns-3 c = fire-skip (c .before .before .before .before .before .before .before .before .args .component) _ _ _ (c .before .before .before .before .before .before .before .before .pre .5) (omega (arith, c .before .before .before .before .before .if1 .left)) (some-spread _ _ (c .before .before .before .before .before .before .before .before .pre .0) (c .before .before .before .before .if2 .left)) (sign-spread _ _ (c .before .before .before .before .before .before .before .before .pre .0) _ _ (c .before .before .before .is-signed .ensures) (not-true _ (c .before .before .if3 .taken))) (c .if4 .taken)
 
-put-at-requires : tie.Need-put-at-requires
-put-at-requires c κs = search needs
+region-requires : tie.Need-region-requires
+region-requires c κs = search needs
+
+mul-from : tie.Need-mul-from
+mul-from c = omega (arith, region-low (c .before .before .before .before .before .before .before .args .component) _ (c .before .before .is-signed .result) (omega (arith, c .before .before .before .before .if1 .left)) (c .region .ensures))
+
+element-copy-out-from : tie.Need-element-copy-out-from
+element-copy-out-from c = region-low (c .before .before .before .before .before .before .before .args .component) _ (c .before .before .is-signed .result) (omega (arith, c .before .before .before .before .if1 .left)) (c .region .ensures)
+
+put-spread-requires : tie.Need-put-spread-requires
+put-spread-requires c κs = (c .before .before .before .before .before .before .before .before .before .pre .0, c .before .before .before .before .before .before .before .before .before .pre .1, c .before .before .before .before .before .before .before .before .before .pre .2, c .before .before .before .before .before .before .before .before .before .pre .3, low-at _ _ (c .before .before .before .before .before .before .before .before .before .pre .4))
+
+mul-next : tie.Need-mul-next
+mul-next c = omega (arith, region-low (c .before .before .before .before .before .before .before .before .before .before .before .before .args .component) _ (c .before .before .before .before .before .before .before .is-signed .result) (omega (arith, c .before .before .before .before .before .before .before .before .before .if1 .left)) (c .before .before .before .before .before .region .ensures))
+
+element-write-next : tie.Need-element-write-next
+element-write-next c = region-low (c .before .before .before .before .before .before .before .before .before .before .before .before .args .component) _ (c .before .before .before .before .before .before .before .is-signed .result) (omega (arith, c .before .before .before .before .before .before .before .before .before .if1 .left)) (c .before .before .before .before .before .region .ensures)
+
+sub-next : tie.Need-sub-next
+sub-next c = moves-on _ _ _ _ _ (low-at _ _ (c .before .before .before .before .before .before .before .before .before .before .before .before .pre .4)) (c .before .before .put-spread .ensures) .0
+
+add-next : tie.Need-add-next
+add-next c = omega (arith, moves-on _ _ _ _ _ (low-at _ _ (c .before .before .before .before .before .before .before .before .before .before .before .before .pre .4)) (c .before .before .put-spread .ensures) .1, c .before .before .before .before .before .before .before .before .before .before .before .before .pre .5)
 
 same-length : tie.Need-same-length
 same-length c = search needs
 
-returns-3 : tie.Need-returns-3
-returns-3 c = fire-add (c .before .before .before .before .before .before .before .before .before .before .args .component) _ _ _ (c .before .before .before .before .before .before .before .before .before .before .pre .5) (omega arith) (some-spread _ _ (c .before .before .before .before .before .before .before .before .before .before .pre .0) (c .before .before .before .before .before .before .if2 .left)) _ _ (sign-spread _ _ (c .before .before .before .before .before .before .before .before .before .before .pre .0) _ _ (c .before .before .before .before .before .is-signed .ensures) (c .before .before .before .before .if3 .taken)) (c .before .before .put-at .ensures)
-
-element-copy-out-if4 : tie.Need-element-copy-out-if4
-element-copy-out-if4 c = search needs
-
 returns-4 : tie.Need-returns-4
-returns-4 c = fire-skip (c .before .before .before .before .before .before .before .before .args .component) _ _ _ (c .before .before .before .before .before .before .before .before .pre .5) (omega arith) (some-spread _ _ (c .before .before .before .before .before .before .before .before .pre .0) (c .before .before .before .before .if2 .left)) (sign-spread _ _ (c .before .before .before .before .before .before .before .before .pre .0) _ _ (c .before .before .before .is-signed .ensures) (c .before .before .if3 .left)) (c .if4 .taken)
+returns-4 c = fire-add (c .before .before .before .before .before .before .before .before .before .before .before .before .before .args .component) _ _ _ (c .before .before .before .before .before .before .before .before .before .before .before .before .before .pre .5) (omega (arith, c .before .before .before .before .before .before .before .before .before .before .if1 .left)) (some-spread _ _ (c .before .before .before .before .before .before .before .before .before .before .before .before .before .pre .0) (c .before .before .before .before .before .before .before .before .before .if2 .left)) _ _ (c .before .before .before .before .before .before .region .ensures) (c .if5 .taken) _ _ (sign-spread _ _ (c .before .before .before .before .before .before .before .before .before .before .before .before .before .pre .0) _ _ (c .before .before .before .before .before .before .before .before .is-signed .ensures) (c .if5 .taken)) (put-moved _ _ _ _ _ _ (c .before .before .before .put-spread .ensures))
 
-mul-put-at-2 : tie.Need-mul-put-at-2
-mul-put-at-2 c = search needs
-
-put-at-requires-2 : tie.Need-put-at-requires-2
-put-at-requires-2 c κs = search needs
-
-element-write-next : tie.Need-element-write-next
-element-write-next c = search needs
+element-write-next-2 : tie.Need-element-write-next-2
+element-write-next-2 c = search needs
 
 same-length-2 : tie.Need-same-length-2
 same-length-2 c = search needs
 
 returns-5 : tie.Need-returns-5
 unfolding basedAt
-returns-5 c = fire-base (c .before .before .before .before .before .before .before .before .before .before .before .before .args .component) _ _ _ (c .before .before .before .before .before .before .before .before .before .before .before .before .pre .5) (omega arith) (some-spread _ _ (c .before .before .before .before .before .before .before .before .before .before .before .before .pre .0) (c .before .before .before .before .before .before .before .before .if2 .left)) _ _ (sign-spread _ _ (c .before .before .before .before .before .before .before .before .before .before .before .before .pre .0) _ _ (c .before .before .before .before .before .before .before .is-signed .ensures) (c .before .before .before .before .before .before .if3 .left)) (c .before .before .before .before .if4 .left) (c .before .before .put-at2 .ensures)
+returns-5 c = fire-base (c .before .before .before .before .before .before .before .before .before .before .before .before .before .args .component) _ _ _ (c .before .before .before .before .before .before .before .before .before .before .before .before .before .pre .5) (omega (arith, c .before .before .before .before .before .before .before .before .before .before .if1 .left)) (some-spread _ _ (c .before .before .before .before .before .before .before .before .before .before .before .before .before .pre .0) (c .before .before .before .before .before .before .before .before .before .if2 .left)) _ _ (c .before .before .before .before .before .before .region .ensures) (c .if5 .left) _ _ (sign-spread _ _ (c .before .before .before .before .before .before .before .before .before .before .before .before .before .pre .0) _ _ (c .before .before .before .before .before .before .before .before .is-signed .ensures) (c .if5 .left)) (⊎-elim (λ w. w .2 .left) (λ w. absurd (no (sym (c .if5 .left) ∙ not-false _ (w .left)))) (c .before .before .before .before .before .before .before .if3 .came)) (put-moved _ _ _ _ _ _ (c .before .before .before .put-spread .ensures))
 
 pub fire-spec : {M : Type 1} → statement M
 fire-spec =
@@ -63,15 +78,18 @@ fire-spec =
     returns
     returns-2
     is-signed-requires
-    mul-put-at
-    add-put-at
-    put-at-requires
-    same-length
-    returns-3
     element-copy-out-if4
-    returns-4
-    mul-put-at-2
-    put-at-requires-2
+    returns-3
+    region-requires
+    mul-from
+    element-copy-out-from
+    put-spread-requires
+    mul-next
     element-write-next
+    sub-next
+    add-next
+    same-length
+    returns-4
+    element-write-next-2
     same-length-2
     returns-5)

@@ -1,0 +1,23 @@
+use borrow.Author.Needs.{needs}
+use Rattle.firing.proofs.writing.region.Statement.{statement}
+use Rattle.firing.proofs.writing.region.Tie as tie
+use Rattle.firing.proofs.writing.region.Reads as reads
+use Rattle.firing.proofs.writing.region.Lts as lts
+
+mul-result : tie.Need-mul-result
+mul-result c = search needs
+
+add-result : tie.Need-add-result
+add-result c = search needs
+
+returns : tie.Need-returns
+returns c = rw (c .if1 .taken)
+
+mul-result-2 : tie.Need-mul-result-2
+mul-result-2 c = search needs
+
+returns-2 : tie.Need-returns-2
+returns-2 c = rw (c .if1 .left)
+
+pub region-spec : {M : Type 1} → statement M
+region-spec = tie.close (tie.spec mul-result add-result returns mul-result-2 returns-2)
