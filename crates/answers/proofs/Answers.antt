@@ -1,7 +1,7 @@
 -- What every answer is; the answers of joined files, and of profiles with the same options.
 use Prim.Native.Nat.{ℕ, zero, suc, _+_, _≤_}
 use native.Mathlib.Omega.{arith}
-use mathlib.Core.Path.{_≡_, refl, sym, ap, _∙_}
+use mathlib.Core.Path.{_≡_, refl, sym, _∙_}
 use mathlib.Core.List.{List, [], _∷_, _++_, map}
 use mathlib.Core.Bool.{Bool, true, false, _||_}
 use lib.ListN.{length}
@@ -24,7 +24,7 @@ use Rattle.rules.specs.Names.{groupsOf, definesOf, namesOf}
 use Rattle.rules.proofs.Joined.{joined-lines}
 use Rattle.rules.proofs.Numbers.{file-numbers}
 use Rattle.answers.specs.Firings.{Firing, fileFirings}
-use Rattle.answers.specs.Answer.{textsFrom, tenTexts, total, noRoom, refusals, Answer, refused, accepted, firstOf, answer, Answered}
+use Rattle.answers.specs.Answer.{textsFrom, tenTexts, total, noRoom, refusals, accepted, firstOf, answer, Answered}
 use Rattle.answers.specs.Joined.{together}
 use Rattle.answers.proofs.Joined.{joined-texts}
 

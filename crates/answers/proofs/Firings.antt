@@ -14,7 +14,7 @@ use Rattle.rules.specs.declared.Column.the-variants as column
 use Rattle.rules.specs.Words.{hasDollar}
 use Rattle.rules.specs.Headings.{Heading}
 use Rattle.rules.specs.Sections.{Rule, Head, bad, defines, applies, Section, sections}
-use Rattle.rules.specs.Faults.{Group, Groups, defined, withGroup, groupsAfter, leftWords, rightWords}
+use Rattle.rules.specs.Faults.{Groups, defined, withGroup, groupsAfter, leftWords, rightWords}
 use Rattle.rules.proofs.Shifted.{shiftRule, shiftSection}
 use Rattle.rules.proofs.Fresh.{freshWord, freshHead, fresh, with-beside}
 use Rattle.values.specs.Spread.{expanded}

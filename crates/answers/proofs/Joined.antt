@@ -12,7 +12,7 @@ use Rattle.rules.specs.Faults.{lineFaults}
 use Rattle.rules.specs.Names.{groupsOf, definesOf, namesOf}
 use Rattle.rules.proofs.Joined.{joined-sections, joined-fresh}
 use Rattle.answers.specs.Firings.{Firing, firings, fileFirings}
-use Rattle.answers.specs.Components.{valuesOf, base, additions}
+use Rattle.answers.specs.Components.{valuesOf}
 use Rattle.answers.specs.Answer.{textsFrom, tenTexts}
 use Rattle.answers.specs.Joined.{together}
 use Rattle.answers.proofs.Updates.{nonEmpty, values-append, additions-append, base-append}

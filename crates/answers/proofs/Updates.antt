@@ -1,6 +1,6 @@
 -- The stepwise update equals the first plain value, then all additions in firing order; and both compose.
 use Prim.Native.Nat.{ℕ}
-use mathlib.Core.Path.{_≡_, refl, ap, _∙_}
+use mathlib.Core.Path.{_≡_, refl, _∙_}
 use mathlib.Core.List.{List, [], _∷_, _++_, append-assoc, append-nil}
 use mathlib.Core.Bool.{Bool, true, false, not, _||_, _&&_, cond}
 use lib.Dec.{eqb}

@@ -8,7 +8,7 @@ use Rattle.profile.specs.Profile.{Profile}
 use Rattle.rules.specs.declared.Column.{Column}
 use Rattle.rules.specs.declared.Column.the-variants as column
 use Rattle.rules.specs.Words.{hasDollar, isStar}
-use Rattle.rules.specs.Faults.{Group, Groups}
+use Rattle.rules.specs.Faults.{Groups}
 
 -- the words of a group "defined earlier in the file"; "an undefined group matches nothing"
 unfoldable pub members : Groups → Text → Words

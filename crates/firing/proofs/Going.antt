@@ -9,11 +9,11 @@ use lib.Dec.{ltb}
 use borrow.Author.Tests.{lt-ltb, le-ltb}
 use Rattle.text.specs.Limits.{longestTotal}
 use Rattle.text.specs.Bytes.{Text, empty}
-use Rattle.output.specs.Store.{farthest, past, Wrote}
+use Rattle.output.specs.Store.{stored, farthest, past, Wrote}
 use Rattle.values.specs.Spread.{signed}
 use Rattle.firing.specs.declared.Cursors.{Cursors}
 use Rattle.answers.specs.Firings.{Firing, fired}
-use Rattle.firing.specs.Writing.{movedAt, basedAt, putCur, putBuf, full, fireCur, fireBuf, runCur, runBuf, PutAt, FiredOne, Low}
+use Rattle.firing.specs.Writing.{movedAt, basedAt, putCur, putBuf, full, fireCur, fireBuf, runCur, runBuf, FiredOne, Low}
 use Rattle.firing.proofs.Regions.{low-put}
 use Rattle.firing.proofs.Written.{run-cur, run-buf, run-cur-nil, run-buf-nil, cur-append, buf-append, length-run, full-fires, full-keeps, not-full}
 
@@ -72,6 +72,11 @@ none-fires l k c v h = rw h
 one-fires : (l k c : ℕ) (v : Text) → empty v ≡ false → fired l k c v ≡ record { line = l; layout = k; component = c; value = v } ∷ []
 unfolding fired
 one-fires l k c v h = rw h
+
+-- the text v was written at the position of region r
+pub record PutAt (d d′ : Text) (q q′ : Cursors) (r : ℕ) (v : Text) : Type 0 where
+  pub bytes : d′ ≡ stored d (getD (q .at) r 0) v
+  pub places : q′ ≡ movedAt q r (length v)
 
 -- The ways of one firing, for any value: whether there is no room for sure, whether it is empty, whether it is an addition, and that it was written at its
 -- region's position.

@@ -68,11 +68,6 @@ pub record FiredOne (d d′ : Text) (q q′ : Cursors) (c : ℕ) (v : Text) : Ty
   pub bytes : (l k : ℕ) → d′ ≡ runBuf d q (fired l k c v)
   pub places : (l k : ℕ) → q′ ≡ runCur q (fired l k c v)
 
--- the text v was written at the position of region r
-pub record PutAt (d d′ : Text) (q q′ : Cursors) (r : ℕ) (v : Text) : Type 0 where
-  pub bytes : d′ ≡ stored d (getD (q .at) r 0) v
-  pub places : q′ ≡ movedAt q r (length v)
-
 -- no position is behind the last
 unfoldable pub Low : List ℕ → Type 0
 Low [] = Unit {0}

@@ -190,19 +190,6 @@ module _ (s : Text) (t : List ℕ) (n : ℕ) (v : Named s t n) where
   at-rank : (g : ℕ) (l : g < n) → rankedAt s t (v .ranks g l .rank) ≡ nameAt s t g
   at-rank g l = ranked-is s t (v .ranks g l .rank) ∙ ap (nameAt s t) (v .ranks g l .number)
 
-  -- no two names are alike
-  rank-apart : (i j : ℕ) → i < j → j < n → rankedAt s t i ≡ rankedAt s t j → ⊥
-  rank-apart i j l k e =
-      no (sym (before-self (rankedAt s t j)) ∙ (ap (λ (x : Text). before x (rankedAt s t j)) (sym e) ∙ v .rising i j l k))
-
-  alike-rank : (i j : ℕ) → i < n → j < n → rankedAt s t i ≡ rankedAt s t j → i ≡ j
-  alike-rank i j k l e = by (ltb i j) refl (ltb j i) refl
-    where
-      by : (a : Bool) → ltb i j ≡ a → (b : Bool) → ltb j i ≡ b → i ≡ j
-      by true p b q = absurd (rank-apart i j (ltb-true i j p) l e)
-      by false p true q = absurd (rank-apart j i (ltb-true j i q) k (sym e))
-      by false p false q = omega (arith, ltb-false i j p, ltb-false j i q)
-
   module _ (w : Text) (r : ℕ) (h : Ranks s t n w r) where
     -- a name that is w has the rank r
     alike-here : (g : ℕ) (l : g < n) → same w (nameAt s t g) ≡ true → v .ranks g l .rank ≡ r

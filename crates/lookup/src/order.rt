@@ -1,6 +1,5 @@
 // The order of names.
 ghost use mathlib.Core.Path.{_≡_};
-ghost use Prim.Native.Nat.{_≤_};
 ghost use lib.ListN.{length};
 ghost use Rattle.lookup.specs.Names.{lower, before};
 

@@ -1,11 +1,11 @@
 -- A heading held by its numbers.
-use Prim.Native.Nat.{ℕ, zero, suc, _+_, _-_, _≤_, _<_}
+use Prim.Native.Nat.{ℕ, zero, suc, _-_, _≤_, _<_}
 use native.Mathlib.Omega.{arith}
 use mathlib.Core.Path.{_≡_, refl, sym, ap, _∙_}
 use mathlib.Core.List.{List, [], _∷_, map}
 use mathlib.Core.Bool.{Bool, true, false, _||_, cond}
 use mathlib.Core.Logic.{_⊎_, ⊎-elim}
-use lib.ListN.{length, getD, take, drop, length-take, List·getD-map}
+use lib.ListN.{length, getD, take, length-take, List·getD-map}
 use lib.Seq.{getD-take}
 use lib.Dec.{eqb}
 use Rattle.text.specs.Bytes.{Text, Words, anyOf}
@@ -17,7 +17,6 @@ use Rattle.rules.specs.declared.Column.the-variants as column
 use Rattle.rules.specs.declared.SetHeading.{SetHeading}
 use Rattle.rules.specs.Headings.{Heading, columnNumber}
 use Rattle.rules.specs.Sets.{Holds}
-use Rattle.rules.specs.Faults.{rightWords}
 use Rattle.answers.specs.Matching.{wordMatches, valueMatches, columnMatches}
 use Rattle.matching.specs.Rows.{matchesAt}
 use Rattle.answers.specs.Layouts.{perLayout}
@@ -59,10 +58,6 @@ module _ (r : SetHeading) (v : SetSized r) where
   pub components-are : headingBy r .components ≡ take (r .right) (r .components)
   unfolding headingBy
   components-are = refl
-
-  pub right-are : (ws : Words) → rightWords (headingBy r) ws ≡ drop (r .left + 1) ws
-  unfolding rightWords
-  right-are ws = rw columns-length
 
   pub column-at : (c : ℕ) → c < r .left → getD (headingBy r .columns) c (columnBy 0) ≡ columnBy (getD (r .columns) c 0)
   unfolding headingBy

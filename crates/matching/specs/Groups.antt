@@ -8,7 +8,7 @@ use lib.Dec.{eqb, leb}
 use Rattle.text.specs.Bytes.{Text, Words, same, anyOf, part}
 use Rattle.text.specs.Reading.{left}
 use Rattle.profile.specs.Profile.{Profile}
-use Rattle.rules.specs.Faults.{Group, Groups}
+use Rattle.rules.specs.Faults.{Groups}
 use Rattle.lookup.specs.Names.{Named, nameAt, namesAt}
 
 -- The first n groups of the file s, the last first. Behind a listed name stand `=` and the group's words.

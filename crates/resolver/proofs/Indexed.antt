@@ -1,6 +1,6 @@
 -- The index of a heading counts from 1.
 use Prim.Native.Nat.{ℕ}
-use mathlib.Core.Path.{_≡_, refl, ap}
+use mathlib.Core.Path.{_≡_, refl}
 use mathlib.Core.List.{List, [], _∷_, _++_, map}
 use mathlib.Core.Bool.{Bool, true, false, cond}
 use lib.ListN.{take, drop}
@@ -12,7 +12,6 @@ use Rattle.text.proofs.Lists.{and-both}
 use Rattle.rules.specs.Headings.{decimal}
 use Rattle.rules.specs.declared.Index.{Index}
 use Rattle.rules.specs.declared.Index.the-variants as index
-use Rattle.rules.specs.declared.Item.{Item}
 use Rattle.rules.specs.declared.Item.the-variants as item
 use Rattle.rules.specs.Headings.{upFrom, numberedIn, indexOf, leftItem, indexesIn, firstIndex}
 use Rattle.matching.specs.Ranges.{FromOne}

@@ -6,8 +6,8 @@ use Rattle.text.specs.Bytes.{Text}
 use Rattle.text.specs.Lines.{Line, lines}
 use Rattle.profile.specs.Profile.{Profile}
 use Rattle.rules.specs.Entries.{Entry, ignored, wrong, group, set, rule, entryOf}
-use Rattle.rules.specs.Sections.{Rule, applies, Section, Sections, addEntry, sections}
-use Rattle.rules.specs.Faults.{Group, Groups, withGroup}
+use Rattle.rules.specs.Sections.{Rule, applies, Sections, addEntry, sections}
+use Rattle.rules.specs.Faults.{Groups, withGroup}
 use Rattle.rules.proofs.Shifted.{sections-cons, sections-nil}
 use Rattle.answers.specs.Firings.{Firing, headFires, firings, fileFirings}
 use Rattle.resolver.specs.Running.{rulesFrom, firingsFrom}

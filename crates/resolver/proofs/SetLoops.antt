@@ -7,7 +7,6 @@ use mathlib.Core.Bool.{Bool, true, false, cond}
 use lib.ListN.{length, getD, take, drop, drop-of-length-le}
 use lib.Dec.{eqb}
 use borrow.Author.Tests.{eqb-true, eqb-false}
-use Rattle.text.proofs.Lists.{no}
 use Rattle.text.specs.declared.Place.the-variants.{Start}
 use Rattle.text.specs.Bytes.{Text, Words}
 use Rattle.text.specs.Marks.{marks}
@@ -17,11 +16,10 @@ use Rattle.text.proofs.Positions.{lines-nil}
 use Rattle.text.proofs.Readers.{marks-nil, lineAt, line-first}
 use Rattle.profile.specs.Profile.{Profile, textsOf, profileOf}
 use Rattle.rules.specs.Headings.{Heading}
-use Rattle.rules.specs.Entries.{ignored, rule}
+use Rattle.rules.specs.Entries.{rule}
 use Rattle.rules.specs.Faults.{Groups, rightWords}
 use Rattle.rules.specs.declared.SetHeading.{SetHeading}
 use Rattle.rules.specs.Checking.{lineOf, presentOf, checkFrom}
-use Rattle.values.specs.Spread.{expanded}
 use Rattle.values.proofs.Profiles.{expanded-options}
 use Rattle.firing.specs.declared.Cursors.{Cursors}
 use Rattle.answers.specs.Matching.{members, ruleMatches}

@@ -1,5 +1,5 @@
 -- One line of a check: the line that is read, and what is carried on.
-use Prim.Native.Nat.{ℕ, zero, _+_, _-_, _≤_, _<_}
+use Prim.Native.Nat.{ℕ, _+_, _-_, _≤_, _<_}
 use native.Mathlib.Omega.{arith}
 use native.Mathlib.Nat.{zero-add, add-comm}
 use mathlib.Core.Path.{_≡_, refl, sym, ap, _∙_}
@@ -26,7 +26,7 @@ use Rattle.rules.specs.declared.LineKind.the-variants as kind
 use Rattle.rules.specs.declared.Progress.{Progress}
 use Rattle.rules.specs.declared.Split.{Split}
 use Rattle.rules.specs.Words.{hasDollar, isGroupName}
-use Rattle.rules.specs.Entries.{Entry, ignored, wrong, group, set, rule, entryOf}
+use Rattle.rules.specs.Entries.{Entry, ignored, wrong, group, rule, entryOf}
 use Rattle.rules.specs.Splitting.{wordsOf, IsWord, IsSplit}
 use Rattle.lookup.specs.Names.{namesAt, Named}
 use Rattle.rules.specs.Checking.{lineOf, noHeading, presentFault, lineFault, presentAfter, namesAfter, checkFrom, namesFrom, IsSetLine, IsKind, Adds, Ready, leftFaults, leftNames, Steps}

@@ -1,11 +1,11 @@
 -- Groups that sections do not name change none of their faults.
 use Prim.Native.Nat.{ℕ, _+_, _≤_, _<_}
 use native.Mathlib.Omega.{arith}
-use mathlib.Core.Path.{_≡_, refl, sym, ap, _∙_}
+use mathlib.Core.Path.{_≡_, refl, sym, _∙_}
 use mathlib.Core.List.{List, [], _∷_, _++_, map}
 use mathlib.Core.Bool.{Bool, true, false, not, _||_, cond}
 use lib.ListN.{length, take, drop, length-append}
-use lib.Dec.{eqb, leb}
+use lib.Dec.{eqb}
 use borrow.Author.Tests.{lt-leb, eqb-true, not-true}
 use Rattle.text.specs.Limits.{mostGroups}
 use Rattle.text.specs.declared.Refusal.{Refusal}
@@ -16,7 +16,7 @@ use Rattle.rules.specs.Words.{isEquals, isStar, hasDollar, ordinary, isG
 use Rattle.rules.specs.Percent.{malformed}
 use Rattle.rules.specs.Headings.{Heading, hasWord}
 use Rattle.rules.specs.Sections.{Rule, Head, bad, defines, applies, Section}
-use Rattle.rules.specs.Faults.{Group, Groups, defined, withGroup, groupsAfter, leftWords, ruleShape, shapeFault, ruleFault, headFaults, faults}
+use Rattle.rules.specs.Faults.{Groups, defined, withGroup, groupsAfter, leftWords, ruleShape, shapeFault, ruleFault, headFaults, faults}
 use Rattle.rules.specs.Names.{namesIn, headNames}
 
 -- the word, the section, the sections name none of the groups g

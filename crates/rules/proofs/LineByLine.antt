@@ -14,7 +14,7 @@ use Rattle.text.specs.Lines.{Line, lines}
 use Rattle.rules.specs.Headings.{Heading}
 use Rattle.rules.specs.Entries.{Entry, ignored, wrong, group, set, rule, entryOf}
 use Rattle.rules.specs.Sections.{Rule, addEntry, sections}
-use Rattle.rules.specs.Faults.{Group, Groups, defined, withGroup, groupsAfter, ruleFault, orphans, headFaults, faults, lineFaults}
+use Rattle.rules.specs.Faults.{Groups, defined, withGroup, groupsAfter, ruleFault, orphans, headFaults, faults, lineFaults}
 use Rattle.rules.specs.Names.{groupsOf}
 use Rattle.rules.proofs.Shifted.{sections-cons, sections-nil}
 

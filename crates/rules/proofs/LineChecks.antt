@@ -1,6 +1,6 @@
 -- The check line by line gives the refusals of a file and the names of its groups.
 use Prim.Native.Nat.{ℕ}
-use mathlib.Core.Path.{_≡_, refl, sym, ap, _∙_}
+use mathlib.Core.Path.{_≡_, refl, sym, _∙_}
 use mathlib.Core.List.{List, [], _∷_, _++_, map}
 use mathlib.Core.Option.{Option, none, some}
 use mathlib.Core.Bool.{Bool, true, false, not, cond}
@@ -16,7 +16,7 @@ use Rattle.rules.specs.declared.Present.{Present}
 use Rattle.rules.specs.declared.Index.{Index}
 use Rattle.rules.specs.Headings.{Heading, hasWord}
 use Rattle.rules.specs.Entries.{Entry, ignored, wrong, group, set, rule, entryOf}
-use Rattle.rules.specs.Faults.{Group, Groups, defined, ruleFault, lineFaults}
+use Rattle.rules.specs.Faults.{Groups, defined, ruleFault, lineFaults}
 use Rattle.rules.specs.Names.{definesOf}
 use Rattle.rules.specs.Checking.{noHeading, formOf, presentOf, presentFault, lineFault, presentAfter, namesAfter, checkFrom, namesFrom}
 use Rattle.rules.proofs.Numbers.{goodEntry, entry-good}

@@ -14,7 +14,6 @@ use Rattle.text.specs.Reading.{left, ahead, lower, FoundWord, NoWord}
 use Rattle.text.proofs.Pairs.{withPair, pair-length, pair-old, pair-new}
 use Rattle.text.proofs.Readers.{lower-zero, lower-none, lower-assoc, fault-cons, fault-nil}
 use Rattle.rules.specs.declared.Tally.{Tally}
-use Rattle.rules.specs.declared.Split.{Split}
 use Rattle.rules.specs.Words.{isEquals, ordinary}
 use Rattle.rules.specs.Entries.{before, after}
 use Rattle.rules.specs.Splitting.{wordsOf, tallied, counted, Tallied, stored, IsWord, Placed, IsSplit}
@@ -47,14 +46,6 @@ count-all h t [] = sym (add-zero (t .count))
 count-all h t (w ∷ ws) =
     let c = count-more h t w in
     count-all h (counted h t w) ws ∙ (let e : counted h t w .count + length ws ≡ t .count + length (w ∷ ws) = omega (arith, c) in e)
-
-before-cons : (w : Text) (ws : Words) → before (w ∷ ws) ≡ cond (isEquals w) [] (w ∷ before ws)
-unfolding before
-before-cons w ws = refl
-
-after-cons : (w : Text) (ws : Words) → after (w ∷ ws) ≡ cond (isEquals w) ws (after ws)
-unfolding after
-after-cons w ws = refl
 
 first-seen : (t : Tally) (ws : Words) → t .seen ≡ true → tallies true t ws .first ≡ t .first
 unfolding tallies counted tallied

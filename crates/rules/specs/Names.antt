@@ -5,7 +5,7 @@ use Rattle.text.specs.Bytes.{Text, Words, rest, concatMap}
 use Rattle.text.specs.Lines.{lines}
 use Rattle.rules.specs.Words.{isGroupName}
 use Rattle.rules.specs.Sections.{Rule, Head, bad, defines, applies, sections}
-use Rattle.rules.specs.Faults.{Group, Groups, groupsAfter, leftWords}
+use Rattle.rules.specs.Faults.{Groups, groupsAfter, leftWords}
 
 -- "a file defines a group by a group line"
 unfoldable pub groupsOf : Text → Groups

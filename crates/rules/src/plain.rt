@@ -1,7 +1,7 @@
 // Lines that are read at one go: lines without words, and rules whose words are plain and of which nothing is refused. Each function here gives the end of what
 // it reads, or 0 where that is for the reader of all lines; 0 says nothing, and is right wherever it is given.
 ghost use mathlib.Core.Path.{_≡_};
-ghost use Prim.Native.Nat.{_<_, _≤_};
+ghost use Prim.Native.Nat.{_<_};
 ghost use Rattle.text.specs.Reading.{Table, Fenced};
 ghost use Rattle.rules.specs.Plain.{LeftRead, RightWord, RightRead, RuleRead, LineRead};
 use super::Present;

@@ -1,14 +1,14 @@
 -- What the kinds of bytes mean for the marks.
-use Prim.Native.Nat.{ℕ, zero, _-_, _≤_}
+use Prim.Native.Nat.{ℕ, _-_, _≤_}
 use native.Mathlib.Omega.{arith}
 use mathlib.Core.Path.{_≡_, refl, sym, _∙_}
-use mathlib.Core.Bool.{Bool, true, false, not, _||_, cond}
+use mathlib.Core.Bool.{Bool, true, false, _||_, cond}
 use borrow.Author.Tests.{ne-eqb, eqb-true, eqb-false, ltb-false}
 use lib.Dec.{eqb, ltb}
 use Rattle.text.specs.declared.Class.the-variants.{Blank, Join, Slashes, Bang, Other}
 use Rattle.text.specs.declared.Place.the-variants.{Space, Word}
 use Rattle.text.specs.declared.Fast.the-variants as fast
-use Rattle.text.specs.Marks.{classOf, char, join, bang, atOther}
+use Rattle.text.specs.Marks.{classOf, char, join, atOther}
 use Rattle.text.specs.Words.{badByte}
 use Rattle.text.specs.Reading.{wordly, inWord, kindOf}
 use Rattle.text.proofs.Lists.{no}

@@ -12,7 +12,7 @@ use Rattle.text.specs.declared.Class.the-variants.{Blank, Join, Slashes,
 use Rattle.text.specs.declared.Place.{Place}
 use Rattle.text.specs.declared.Place.the-variants.{Start, Space, Word, Comment, JoinStart, JoinSpace}
 use Rattle.text.specs.Bytes.{first}
-use Rattle.text.specs.Marks.{classOf, Mark, char, gap, end, atFeed, atOther, step, marks}
+use Rattle.text.specs.Marks.{classOf, Mark, end, atFeed, atOther, marks}
 use Rattle.text.specs.Lines.{linesOf}
 use Rattle.text.specs.Reading.{ahead, follow, Fenced, FirstFeed, Passed, FoundWord, NoWord}
 use Rattle.text.proofs.Lists.{no}

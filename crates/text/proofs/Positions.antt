@@ -2,7 +2,7 @@
 use Prim.Native.Nat.{ℕ, zero, suc, suc-le-suc, _+_, _-_, _≤_, _<_}
 use native.Mathlib.Nat.{sub-self, add-zero}
 use native.Mathlib.Omega.{arith}
-use mathlib.Core.Path.{_≡_, refl, sym, ap, _∙_}
+use mathlib.Core.Path.{_≡_, refl, sym, _∙_}
 use mathlib.Core.List.{List, [], _∷_, _++_, append-nil, append-assoc}
 use mathlib.Core.Bool.{Bool, true, false, _||_, cond}
 use mathlib.Core.Logic.{_⊎_, inl, inr, ⊎-elim}
@@ -236,11 +236,6 @@ module _ (s : List ℕ) (from e i : ℕ) (v : NoneBad s from e i) where
 pub length-part : (s : List ℕ) (a e : ℕ) → e ≤ length s → length (part s a e) ≡ e - a
 unfolding part
 length-part s a e h = simp (length-take, length-drop) (omega arith)
-
--- what is read of a part that starts in the middle of the file is what is read there
-pub left-of-part : (s : List ℕ) (at i : ℕ) → left (drop at s) i ≡ left s (at + i)
-unfolding left
-left-of-part s at i = rw (drop-drop i at s)
 
 pub part-of-part : (s : List ℕ) (at a e : ℕ) → part (drop at s) a e ≡ part s (at + a) (at + e)
 unfolding part

@@ -1,7 +1,7 @@
 -- The readers of lines and words: one law for each way through each loop.
 use Prim.Native.Nat.{ℕ, zero, suc, min, _+_, _-_, _≤_, _<_}
 use native.Mathlib.Omega.{arith}
-use mathlib.Core.Path.{_≡_, refl, sym, ap, _∙_}
+use mathlib.Core.Path.{_≡_, refl, sym, _∙_}
 use mathlib.Core.List.{List, [], _∷_, _++_}
 use mathlib.Core.Bool.{Bool, true, false, not, _||_, _&&_, cond}
 use borrow.Author.Tests.{eq-eqb, eqb-true, eqb-false, ltb-true, ltb-false, lt-ltb, le-ltb, le-leb}
@@ -20,10 +20,10 @@ use Rattle.text.specs.Bytes.{Words, first, part, allOf, anyOf}
 use Rattle.text.specs.Marks.{classOf, Mark, char, gap, join, bang, end, atFeed, atOther, step, marks}
 use Rattle.text.specs.Lines.{run, words, heading, Line, inside, linesOf, lines}
 use Rattle.text.specs.Words.{badByte, tooLong, wordsFault}
-use Rattle.text.specs.Reading.{left, inWord, ahead, follow, faultOf, lower, levelOf, kindOf, Fenced, WordEnd, InWord, PlainEnd, RunEnd, OddWord, CommentEnd, Blanks, Skipped, FoundWord, NoWord, Between, FastWord, PlainFound, PlainWord, ValueWord, ByteWord, NextWord, Opens}
+use Rattle.text.specs.Reading.{left, ahead, follow, faultOf, lower, levelOf, kindOf, Fenced, WordEnd, InWord, PlainEnd, RunEnd, OddWord, CommentEnd, Blanks, Skipped, FoundWord, NoWord, Between, FastWord, PlainFound, PlainWord, ValueWord, ByteWord, NextWord, Opens}
 use Rattle.text.proofs.Lists.{no, and-both}
 use Rattle.text.proofs.Positions.{first-drop, part-empty, part-cons, part-snoc, in-word-start, in-word-more, in-word-over, marks-at, step-other, step-feed, comment-words, first-in, any-cons, any-nil, length-part, lines-char, lines-gap, lines-bang, lines-join, lines-end, lines-nil}
-use Rattle.text.proofs.ByteKinds.{pick, Plain, not-bad, plain-in-word, kind-one, kind-stop, Begins, begins-char, kind-zero, join-class, note-class, bang-class, differ}
+use Rattle.text.proofs.ByteKinds.{pick, not-bad, plain-in-word, kind-one, kind-stop, Begins, begins-char, kind-zero, join-class, note-class, bang-class, differ}
 
 -- plain bytes
 
@@ -136,14 +136,6 @@ heading-join r = refl
 heading-bang : (r : List Mark) → heading (bang ∷ r) ≡ true
 unfolding heading
 heading-bang r = refl
-
-heading-char : (b : ℕ) (r : List Mark) → heading (char b ∷ r) ≡ false
-unfolding heading
-heading-char b r = refl
-
-heading-end : (r : List Mark) → heading (end ∷ r) ≡ false
-unfolding heading
-heading-end r = refl
 
 heading-nil : heading [] ≡ false
 unfolding heading

@@ -3,17 +3,17 @@ use Prim.Native.Nat.{ℕ, zero, suc, _+_, _*_, _-_, _≤_, _<_}
 use native.Mathlib.Omega.{arith}
 use mathlib.Core.Path.{_≡_, refl, sym, ap, _∙_}
 use mathlib.Core.List.{[], _∷_, _++_, append-assoc}
-use mathlib.Core.Bool.{Bool, true, false, _||_, cond}
-use lib.ListN.{length, take, drop, length-append, length-take, length-drop}
+use mathlib.Core.Bool.{Bool, true, false}
+use lib.ListN.{length, drop, length-append, length-drop}
 use lib.Dec.{eqb}
-use borrow.Author.Tests.{eq-eqb, ne-eqb, lt-ltb}
-use Rattle.text.specs.Bytes.{Text, bytes, same, first, part, concatMap}
+use borrow.Author.Tests.{ne-eqb, lt-ltb}
+use Rattle.text.specs.Bytes.{Text, bytes, same, first}
 use Rattle.text.proofs.Comparing.{same-length}
 use Rattle.text.proofs.Lists.{no, or-right}
-use Rattle.output.specs.Store.{farthest, past, Wrote}
-use Rattle.output.proofs.Stores.{stored-behind, wrote-none, wrote-then}
+use Rattle.output.specs.Store.{farthest, Wrote}
+use Rattle.output.proofs.Stores.{wrote-then}
 use Rattle.rules.specs.Headings.{decimal}
-use Rattle.values.specs.Spread.{isSign, signed, cuts, endsAll, copy, copies, spread}
+use Rattle.values.specs.Spread.{isSign, signed, endsAll, copy, copies, spread}
 use Rattle.values.proofs.Writes.{Writing, writing-start, writing-more, writing-end}
 
 -- signs

@@ -1,17 +1,10 @@
--- What a value takes of a profile: its texts but the options, and what an accepted profile promises of them.
-use Prim.Native.Nat.{ℕ, _≤_}
+-- What a value takes of a profile: its texts but the options.
+use Prim.Native.Nat.{ℕ}
 use mathlib.Core.Path.{_≡_, refl, ap}
-use mathlib.Core.List.{List, [], _∷_, _++_}
-use mathlib.Core.Bool.{Bool, true, false, _||_}
+use mathlib.Core.List.{List, [], _∷_}
 use lib.ListN.{length}
-use lib.Dec.{ltb}
-use borrow.Author.Tests.{ltb-false}
-use Rattle.text.specs.Limits.{longestText, mostLayouts}
-use Rattle.text.specs.Bytes.{Text, anyOf, concatMap}
-use Rattle.text.specs.Refusals.{refusedIf}
-use Rattle.text.proofs.Lists.{nil-left, nil-right}
+use Rattle.text.specs.Bytes.{Text, concatMap}
 use Rattle.profile.specs.Profile.{textsOf, fields, profileOf, layoutCount}
-use Rattle.profile.specs.Refusals.{outside, longField, badText, textRefusals, countRefusals, profileRefusals}
 use Rattle.rules.specs.declared.Variable.{Variable}
 use Rattle.rules.specs.declared.Variable.the-variants as variable
 use Rattle.rules.specs.declared.Piece.{Piece}
@@ -19,8 +12,6 @@ use Rattle.rules.specs.declared.Piece.the-variants.{Byte, Number, Bare, Parens,
 use Rattle.rules.specs.Percent.{pieces}
 use Rattle.values.specs.Values.{valueOf, pieceText, filled}
 use Rattle.values.specs.Spread.{cuts, spread, expanded}
-use Rattle.values.specs.Filling.{Short}
-use Rattle.values.proofs.Filling.{or-none}
 
 -- the options matter to no value
 
@@ -60,43 +51,3 @@ module _ (m l v o : Text) (k : ℕ) where
       concatMap (spread n) (cuts u) ≡ expanded (profileOf (textsOf m l v o)) k t
   unfolding expanded profileOf layoutCount
   expanded-by n t u e q = rw (e, q, filled-options t)
-
--- an accepted profile
-
-refused-not : (t : Bool) (n p : ℕ) → refusedIf t n p ≡ [] → t ≡ false
-unfolding refusedIf
-refused-not true n p h = cc
-refused-not false n p h = refl
-
-short-fields : (t : Text) (fs : List Text) → badText t fs ≡ false → anyOf longField fs ≡ false
-unfolding badText
-short-fields t fs h =
-    or-none (anyOf outside t) (anyOf longField fs) (or-none (ltb longestText (length t)) (anyOf outside t || anyOf longField fs) h .1) .1
-
-one-field : (t : Text) → anyOf longField (t ∷ []) ≡ false → longField t ≡ false
-unfolding anyOf
-one-field t h = or-none (longField t) false h .0
-
-module _ (m l v o : Text) (h : profileRefusals (textsOf m l v o) ≡ []) where
-  pub accepted-short : Short m l v
-  unfolding profileRefusals textRefusals
-  accepted-short =
-      let a = refusedIf (badText m (m ∷ [])) 1 1 in
-      let b = refusedIf (badText l (fields l)) 1 2 in
-      let c = refusedIf (badText v (fields v)) 1 3 in
-      let d = refusedIf (badText o (fields o)) 1 4 in
-      let w = nil-left (a ++ (b ++ (c ++ d))) (countRefusals (textsOf m l v o)) h in
-      let x = nil-right a (b ++ (c ++ d)) w in
-      record {
-        model = one-field m (short-fields m (m ∷ []) (refused-not (badText m (m ∷ [])) 1 1 (nil-left a (b ++ (c ++ d)) w)));
-        layouts = short-fields l (fields l) (refused-not (badText l (fields l)) 1 2 (nil-left b (c ++ d) x));
-        variants = short-fields v (fields v) (refused-not (badText v (fields v)) 1 3 (nil-left c d (nil-right b (c ++ d) x)));
-      }
-
-  pub accepted-count : length (fields l) ≤ mostLayouts
-  unfolding profileRefusals countRefusals
-  accepted-count =
-      let a = refusedIf (ltb mostLayouts (length (fields l))) 2 2 in
-      let b = refusedIf (ltb (length (fields l)) (length (fields v))) 2 3 in
-      let w = nil-right (textRefusals (textsOf m l v o)) (countRefusals (textsOf m l v o)) h in
-      ltb-false mostLayouts (length (fields l)) (refused-not (ltb mostLayouts (length (fields l))) 2 2 (nil-left a _ w))

@@ -3,7 +3,7 @@ use Prim.Native.Nat.{ℕ, _+_, _*_, _-_, _≤_, _<_}
 use native.Mathlib.Omega.{arith}
 use mathlib.Core.Path.{_≡_, refl, sym, ap, _∙_}
 use mathlib.Core.List.{[], _∷_, _++_, append-nil, append-assoc}
-use lib.ListN.{length, take, drop, set, length-append, length-set, length-take, length-drop}
+use lib.ListN.{length, take, drop, set, length-append, length-set}
 use Rattle.text.specs.Bytes.{Text, part, concatMap}
 use Rattle.output.specs.Store.{stored, farthest, past, Wrote}
 use Rattle.output.proofs.Stores.{stored-append, length-stored, stored-behind, wrote-none, wrote-then}
@@ -35,9 +35,6 @@ module _ (t : Text) (from c s n : ℕ) (e : s ≡ startOf t from c) where
   pub more-counted : (r : ℕ) → r ≡ length (copies (n - 1) 2 (take (c - s) (drop s t))) → r ≡ length (moreCopies n t from c)
   unfolding moreCopies part
   more-counted r w = rw e at w
-
-pub part-short : (t : Text) (a e : ℕ) → length t ≤ farthest → length (take (e - a) (drop a t)) ≤ farthest
-part-short t a e h = omega (arith, length-take (e - a) (drop a t), length-drop a t)
 
 -- the loop of `put_spread`: the pieces from i on are left
 

@@ -19,11 +19,6 @@ wrote-byte d at i b r e q = record { text = rw e; next = q }
 pub byte-behind : (d : Text) (at i b r : ℕ) → i ≡ at → length d ≤ i → r ≡ past at 1 → Wrote d d at (b ∷ []) r
 byte-behind d at i b r e h q = record { text = sym (stored-behind d at (b ∷ []) (omega arith)); next = q }
 
--- at the farthest position nothing is stored, and the position stays
-pub wrote-farthest : (d : Text) (at : ℕ) (t : Text) → length d ≤ farthest → at ≤ farthest → farthest ≤ at → Wrote d d at t at
-unfolding past
-wrote-farthest d at t h l e = record { text = sym (stored-behind d at t (omega arith)); next = omega arith }
-
 -- a whole text
 pub part-whole : (t : Text) → part t 0 (length t) ≡ t
 unfolding part

@@ -40,6 +40,6 @@ unfoldable pub startOf : Text → ℕ → ℕ → ℕ
 startOf t from zero = zero
 startOf t from (suc c) = let r = startOf t from c in cond (isSign (getD t (suc c) 0) || leb (suc c) from) (suc c) r
 
--- "each keeps the piece's sign, and where it has none all copies but the first get `+`": the copies 2 to n of the piece whose `:all` begins at c
+-- the copies 2 to n of the piece whose `:all` begins at c
 unfoldable pub moreCopies : ℕ → Text → ℕ → ℕ → Text
 moreCopies n t from c = copies (n - 1) 2 (part t (startOf t from c) c)

@@ -1,5 +1,4 @@
 use borrow.Author.Needs.{needs}
-use native.Mathlib.Omega.{arith}
 use mathlib.Core.Path.{sym, _∙_}
 use Rattle.values.proofs.Keeping.{Backing, backing-start, backing-more, backing-sign, backing-end}
 use Rattle.values.proofs.spread.piece_start.Statement.{statement}
