@@ -11,7 +11,7 @@ use lib.Seq.{set-out, set-comm, take-suc-set, take-set-le, take-add, drop-drop, 
 use lib.Dec.{ltb}
 use borrow.Author.Tests.{ltb-true, ltb-false}
 use Rattle.text.specs.Bytes.{Text, part}
-use Rattle.text.proofs.Positions.{part-empty, part-snoc, length-part}
+use Rattle.text.proofs.Positions.{part-empty, part-cons, part-snoc, length-part}
 use Rattle.output.specs.Store.{stored, farthest, past, Wrote}
 
 pub stored-append : (d : Text) (at : ℕ) (x y : Text) → stored d at (x ++ y) ≡ stored (stored d at x) (at + length x) y
@@ -88,6 +88,16 @@ pub copied-more : (d d′ s : Text) (start from i o : ℕ) → from ≤ i → i 
     set d′ o (getD s i 0) ≡ stored d start (part s from (i + 1))
 copied-more d d′ s start from i o h l e g =
     rw (part-snoc s from i h l, stored-append, length-part s from i (omega arith), ← e, ← g) (stored-one d′ o (getD s i 0))
+
+pub copied-nothing : (d s : Text) (start from e : ℕ) → e ≤ from → d ≡ stored d start (part s from e)
+unfolding stored part
+copied-nothing d s start from e h = let z : e - from ≡ 0 = omega arith in rw z
+
+-- the first byte by itself
+pub copied-first : (d d′ s : Text) (start from i e : ℕ) → from < e → e ≤ length s → i ≡ e → d′ ≡ stored (set d start (getD s from 0)) (start + 1) (part s (from + 1) i) →
+    d′ ≡ stored d start (part s from e)
+unfolding stored
+copied-first d d′ s start from i e h l q g = g ∙ rw (q, part-cons s from e h l)
 
 -- a part of which only what has room is copied
 pub cut-part : (s : Text) (a e n : ℕ) → a ≤ e → a + n ≤ e → e ≤ length s → part s a e ≡ part s a (a + n) ++ part s (a + n) e

@@ -35,12 +35,17 @@ pub fn taken(room: usize, at: usize, n: usize) -> usize
     if n < room - at { n } else { room - at }
 }
 
+// Copies a part of s. Its first byte is copied by itself: often there is no other, and a loop costs more to set up.
 pub fn copy(s: &[u8], from: usize, end: usize, out: &mut [u8], start: usize)
     requires { ⌜ (from ≤ end) × (end ≤ length (now s)) × (end - from ≤ length (now out) - start) ⌝ }
     ensures { λ _. ⌜ now (out .exit) ≡ stored (now (out .entry)) start (part (now (s .entry)) from end) ⌝ }
 {
-    let mut i = from;
-    let mut o = start;
+    if end <= from {
+        return;
+    }
+    out[start] = s[from];
+    let mut i = from + 1;
+    let mut o = start + 1;
     while i < end {
         out[o] = s[i];
         i += 1;

@@ -10,10 +10,15 @@ use Rattle.output.proofs.Stores.{stored-append, length-stored, stored-behind, w
 use Rattle.rules.specs.Headings.{decimal}
 use Rattle.profile.proofs.Listing.{length-part}
 use Rattle.values.specs.Spread.{cuts, copies, spread}
-use Rattle.values.specs.Cutting.{FirstAll, startOf, moreCopies}
+use Rattle.values.specs.Cutting.{FirstAll, startOf, signOf, behindSign, moreCopies}
 use Rattle.values.proofs.Writes.{Writing, writing-start, writing-more, writing-end}
-use Rattle.values.proofs.Copying.{copies-zero, copies-most}
+use Rattle.values.proofs.Copying.{copies-zero, copies-by, behind-short, few-copies, copies-counted}
 use Rattle.values.proofs.Keeping.{start-low, kept-last, long, kept-copies}
+
+-- a position within the buffer
+past-near : (at n : ℕ) → at + n ≤ farthest → at + n ≡ past at n
+unfolding past
+past-near at n h = omega arith
 
 -- with one layout there are no more copies than the first
 more-none : (n : ℕ) (t : Text) (from c : ℕ) → n < 2 → moreCopies n t from c ≡ []
@@ -26,15 +31,30 @@ more-nothing d at n t from c l h = rw (more-none n t from c h) (wrote-none d at 
 pub more-zero : (n : ℕ) (t : Text) (from c : ℕ) → n < 2 → 0 ≡ length (moreCopies n t from c)
 more-zero n t from c h = sym (ap length (more-none n t from c h))
 
--- the copies of the piece that starts at s
+-- the copies of the piece u that starts at s, by their sign b and what stands behind it
 module _ (t : Text) (from c s n : ℕ) (e : s ≡ startOf t from c) where
-  pub more-wrote : (d d′ : Text) (at r : ℕ) → Wrote d d′ at (copies (n - 1) 2 (take (c - s) (drop s t))) r → Wrote d d′ at (moreCopies n t from c) r
-  unfolding moreCopies part
-  more-wrote d d′ at r w = rw e at w
+  abbrev u : Text
+  u = take (c - s) (drop s t)
 
-  pub more-counted : (r : ℕ) → r ≡ length (copies (n - 1) 2 (take (c - s) (drop s t))) → r ≡ length (moreCopies n t from c)
+  piece : moreCopies n t from c ≡ copies (n - 1) 2 u
   unfolding moreCopies part
-  more-counted r w = rw e at w
+  piece = rw e refl
+
+  pub more-wrote : (b : ℕ) (r d d′ : Text) (at o : ℕ) → b ≡ signOf u → r ≡ behindSign u → Wrote d d′ at (copies (n - 1) 2 (b ∷ r)) o →
+      Wrote d d′ at (moreCopies n t from c) o
+  more-wrote b r d d′ at o x y w = rw piece (rw (copies-by (n - 1) u b r x y) at w)
+
+  module _ (r : Text) (some : 1 ≤ n) (few : n < 10) (y : r ≡ behindSign u) where
+    pub more-counted : (m : ℕ) → m ≡ (n - 1) * (length r + 3) → m ≡ length (moreCopies n t from c)
+    more-counted m z = z ∙ (copies-counted n u r some few y ∙ ap length (sym piece))
+
+    pub more-written : (b : ℕ) (d d′ : Text) (at a o m : ℕ) → b ≡ signOf u → a ≡ at → d′ ≡ stored d a (copies (n - 1) 2 (b ∷ r)) → m ≡ (n - 1) * (length r + 3) →
+        a + m ≤ length d → length d ≤ farthest → o ≡ at + m → Wrote d d′ at (moreCopies n t from c) o
+    more-written b d d′ at a o m x q w z h l v =
+        record {
+          text = w ∙ rw (q, copies-by (n - 1) u b r x y, piece) refl;
+          next = v ∙ (past-near at m (omega arith) ∙ ap (past at) (more-counted m z));
+        }
 
 -- the loop of `put_spread`: the pieces from i on are left
 
@@ -72,14 +92,14 @@ first-inside d d₁ x a n e h = omega (arith, length-set d₁ (a + n) 58, ap len
 
 -- the first copy, where there is room for it and where there is none
 module _ (d : Text) (t : Text) (i c at : ℕ) (l : i ≤ c) (h : c ≤ length t) where
-  pub first-wrote : (d₁ : Text) (a r : ℕ) → a ≡ at → d₁ ≡ stored d a (part t i c) → r ≡ past at (c - i + 2) →
+  pub first-wrote : (d₁ : Text) (a r : ℕ) → a ≡ at → a + (c - i) + 2 ≤ length d → length d ≤ farthest → d₁ ≡ stored d a (part t i c) → r ≡ at + (c - i + 2) →
       Wrote d (set (set d₁ (a + (c - i)) 58) (a + (c - i) + 1) 49) at (part t i c ++ (58 ∷ decimal 1)) r
   unfolding stored decimal
-  first-wrote d₁ a r e x y =
+  first-wrote d₁ a r e g k x y =
       let z : length (part t i c) ≡ c - i = length-part t i c l h in
       record {
         text = sym (stored-append d at (part t i c) (58 ∷ decimal 1) ∙ rw (z, x, e));
-        next = y ∙ ap (past at) (sym (length-append (part t i c) (58 ∷ decimal 1) ∙ rw z));
+        next = y ∙ (past-near at (c - i + 2) (omega arith) ∙ ap (past at) (sym (length-append (part t i c) (58 ∷ decimal 1) ∙ rw z)));
       }
 
   pub first-then : (d₁ d₂ : Text) (a r : ℕ) → length d ≤ farthest → Wrote d d₁ at (part t i c) a → Wrote d₁ d₂ a (58 ∷ decimal 1) r →
@@ -114,7 +134,14 @@ module _ (t : Text) (n i m : ℕ) (v : Counting t n i m) (c : ℕ) (f : FirstAll
     counting-few =
         let s = startOf t i c in
         let a = start-low t i c (f .free .low) l in
-        omega (arith, e, copies-most (part t s c) n some few, length-part t s c (a .1) (f .free .high), a .0)
+        let r = behindSign (part t s c) in
+        omega (
+          arith,
+          e,
+          copies-counted n (part t s c) r some few refl,
+          few-copies n (length r) (c - i) some few
+              (omega (arith, behind-short (part t s c) r refl, length-part t s c (a .1) (f .free .high), a .0)),
+        )
 
     pub counting-more : Counting t n (c + 4) (m + (c - i) + 2 + k)
     unfolding decimal

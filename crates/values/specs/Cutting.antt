@@ -5,8 +5,8 @@ use mathlib.Core.List.{[], _∷_}
 use mathlib.Core.Bool.{Bool, true, false, _||_, cond}
 use lib.ListN.{length, drop, getD}
 use lib.Dec.{leb}
-use Rattle.text.specs.Bytes.{Text, bytes, same, part}
-use Rattle.values.specs.Spread.{isSign, copies}
+use Rattle.text.specs.Bytes.{Text, bytes, same, first, part}
+use Rattle.values.specs.Spread.{isSign, signed, copies}
 
 -- what stands before the first sign
 unfoldable pub upto : Text → Text
@@ -39,6 +39,13 @@ pub record ToColon (t : Text) (from i : ℕ) : Type 0 where
 unfoldable pub startOf : Text → ℕ → ℕ → ℕ
 startOf t from zero = zero
 startOf t from (suc c) = let r = startOf t from c in cond (isSign (getD t (suc c) 0) || leb (suc c) from) (suc c) r
+
+-- "each keeps the piece's sign, and where it has none all copies but the first get `+`": the sign of the copies behind the first, and what stands behind it
+unfoldable pub signOf : Text → ℕ
+signOf t = cond (signed t) (first t) 43
+
+unfoldable pub behindSign : Text → Text
+behindSign t = cond (signed t) (drop 1 t) t
 
 -- the copies 2 to n of the piece whose `:all` begins at c
 unfoldable pub moreCopies : ℕ → Text → ℕ → ℕ → Text

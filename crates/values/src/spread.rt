@@ -1,13 +1,14 @@
 // `:all`: a value cut before its signs, and each piece that ends with `:all` as copies.
 ghost use mathlib.Core.Path.{_≡_};
 ghost use mathlib.Core.List.{_∷_, _++_};
-ghost use Prim.Native.Nat.{_+_, _-_, _≤_, _<_};
+ghost use mathlib.Core.Bool.{true};
+ghost use Prim.Native.Nat.{_+_, _*_, _-_, _≤_, _<_};
 ghost use lib.ListN.{length, drop, getD};
 ghost use Rattle.text.specs.Bytes.{part, concatMap};
-ghost use Rattle.output.specs.Store.{farthest, Wrote};
+ghost use Rattle.output.specs.Store.{stored, farthest, Wrote};
 ghost use Rattle.rules.specs.Headings.{decimal};
 ghost use Rattle.values.specs.Spread.{isSign, signed, cuts, copy, copies, spread};
-ghost use Rattle.values.specs.Cutting.{closesAll, FirstAll, ToColon, startOf, moreCopies};
+ghost use Rattle.values.specs.Cutting.{closesAll, FirstAll, ToColon, startOf, signOf, behindSign, moreCopies};
 use super::write;
 
 // Whether a byte is a sign.
@@ -33,43 +34,82 @@ pub fn put_end(k: usize, out: &mut [u8], at: u32) -> u32
     write::put_number(k, out, next)
 }
 
-// Writes the k-th copy of a piece, but not the first; `t` is what stands before its `:all`.
-fn put_copy(t: &[u8], k: usize, out: &mut [u8], at: u32) -> u32
-    requires { ⌜ (2 ≤ k) × (k < 100) × (length (now out) ≤ farthest) ⌝ }
-    ensures { λ r. ⌜ Wrote (now (out .entry)) (now (out .exit)) at (copy k (now (t .entry))) r ⌝ }
+// The sign of a piece's copies behind the first; `t` is what stands before its `:all`.
+fn sign_of(t: &[u8]) -> u8
+    ensures { λ r. ⌜ r ≡ signOf (now (t .entry)) ⌝ }
 {
     if is_signed(t) {
-        let a = write::put_text(t, out, at);
-        return put_end(k, out, a);
+        return text::bytes::peek(t, 0);
     }
-    let p = write::put_byte(b'+', out, at);
-    let a = write::put_text(t, out, p);
+    b'+'
+}
+
+// What stands behind that sign.
+fn behind_sign<'a>(t: &'a [u8]) -> &'a [u8]
+    ensures { λ r. ⌜ now r ≡ behindSign (now (t .entry)) ⌝ }
+{
+    if is_signed(t) {
+        return &t[1..];
+    }
+    &t[0..]
+}
+
+// Writes the k-th copy, where there is room for it: its sign, what stands behind it, `:` and its number.
+fn write_copy(sign: u8, rest: &[u8], k: usize, out: &mut [u8], at: usize) -> usize
+    requires { ⌜ (2 ≤ k) × (k < 10) × (isSign sign ≡ true) × (at + length (now rest) + 3 ≤ length (now out)) × (length (now out) ≤ farthest) ⌝ }
+    ensures { λ r. ⌜ (now (out .exit) ≡ stored (now (out .entry)) at (copy k (sign ∷ now (rest .entry)))) × (r ≡ at + length (now (rest .entry)) + 3) ⌝ }
+{
+    let n = rest.len();
+    out[at] = sign;
+    output::copy(rest, 0, n, out, at + 1);
+    out[at + n + 1] = b':';
+    out[at + n + 2] = (48 + k) as u8;
+    at + n + 3
+}
+
+// Writes the copies 2 to n, where there is room for them.
+fn write_copies(sign: u8, rest: &[u8], n: usize, out: &mut [u8], at: usize)
+    requires { ⌜ (1 ≤ n) × (n < 10) × (isSign sign ≡ true) × (at + (n - 1) * (length (now rest) + 3) ≤ length (now out)) × (length (now out) ≤ farthest) ⌝ }
+    ensures { λ _. ⌜ now (out .exit) ≡ stored (now (out .entry)) at (copies (n - 1) 2 (sign ∷ now (rest .entry))) ⌝ }
+{
+    let mut k: usize = 2;
+    let mut o = at;
+    while k <= n {
+        o = write_copy(sign, rest, k, out, o);
+        k += 1;
+    }
+}
+
+// Writes the k-th copy, as far as there is room.
+fn put_copy(sign: u8, rest: &[u8], k: usize, out: &mut [u8], at: u32) -> u32
+    requires { ⌜ (2 ≤ k) × (k < 10) × (isSign sign ≡ true) × (length (now out) ≤ farthest) ⌝ }
+    ensures { λ r. ⌜ Wrote (now (out .entry)) (now (out .exit)) at (copy k (sign ∷ now (rest .entry))) r ⌝ }
+{
+    let p = write::put_byte(sign, out, at);
+    let a = write::put_text(rest, out, p);
     put_end(k, out, a)
 }
 
-// Writes the copies 2 to n of a piece.
-fn put_copies(t: &[u8], n: usize, out: &mut [u8], at: u32) -> u32
-    requires { ⌜ (1 ≤ n) × (n < 10) × (length (now out) ≤ farthest) × (at ≤ farthest) ⌝ }
-    ensures { λ r. ⌜ Wrote (now (out .entry)) (now (out .exit)) at (copies (n - 1) 2 (now (t .entry))) r ⌝ }
+// Writes the copies 2 to n, as far as there is room.
+fn put_copies(sign: u8, rest: &[u8], n: usize, out: &mut [u8], at: u32) -> u32
+    requires { ⌜ (1 ≤ n) × (n < 10) × (isSign sign ≡ true) × (length (now out) ≤ farthest) × (at ≤ farthest) ⌝ }
+    ensures { λ r. ⌜ Wrote (now (out .entry)) (now (out .exit)) at (copies (n - 1) 2 (sign ∷ now (rest .entry))) r ⌝ }
 {
     let mut k: usize = 2;
     let mut o: u32 = at;
     while k <= n {
-        o = put_copy(t, k, out, o);
+        o = put_copy(sign, rest, k, out, o);
         k += 1;
     }
     o
 }
 
-// How long the copies 2 to n of a piece are together.
-fn copies_length(t: &[u8], n: usize) -> usize
-    requires { ⌜ (1 ≤ n) × (n < 10) × (length (now t) ≤ farthest) ⌝ }
-    ensures { λ r. ⌜ r ≡ length (copies (n - 1) 2 (now (t .entry))) ⌝ }
+// How long the copies 2 to n are together.
+fn copies_length(rest: &[u8], n: usize) -> usize
+    requires { ⌜ (1 ≤ n) × (n < 10) × (length (now rest) ≤ farthest) ⌝ }
+    ensures { λ r. ⌜ r ≡ (n - 1) * (length (now (rest .entry)) + 3) ⌝ }
 {
-    if is_signed(t) {
-        return (n - 1) * (t.len() + 2);
-    }
-    (n - 1) * (t.len() + 3)
+    (n - 1) * (rest.len() + 3)
 }
 
 // The first colon from `from` on, or where too few bytes are left for `:all`.
@@ -159,14 +199,22 @@ fn piece_start(t: &[u8], from: usize, c: usize) -> usize
 
 // Writes the copies 2 to n of the piece whose `:all` begins at c. It starts at `from` or behind it.
 fn put_more(t: &[u8], from: usize, c: usize, n: usize, out: &mut [u8], at: u32) -> u32
-    requires { ⌜ (from ≤ c) × (c < length (now t)) × (1 ≤ n) × (n < 10) × (length (now out) ≤ farthest) × (at ≤ farthest) ⌝ }
+    requires { ⌜ (from ≤ c) × (c < length (now t)) × (1 ≤ n) × (n < 10) × (length (now t) ≤ farthest) × (length (now out) ≤ farthest) × (at ≤ farthest) ⌝ }
     ensures { λ r. ⌜ Wrote (now (out .entry)) (now (out .exit)) at (moreCopies n (now (t .entry)) from c) r ⌝ }
 {
     if n < 2 {
         return at;
     }
     let start = piece_start(t, from, c);
-    put_copies(&t[start..c], n, out, at)
+    let sign = sign_of(&t[start..c]);
+    let rest = behind_sign(&t[start..c]);
+    let m = copies_length(rest, n);
+    let a = output::wide(at);
+    if a + m <= out.len() {
+        write_copies(sign, rest, n, out, a);
+        return at + m as u32;
+    }
+    put_copies(sign, rest, n, out, at)
 }
 
 // How long they are together.
@@ -178,7 +226,7 @@ fn more_length(t: &[u8], from: usize, c: usize, n: usize) -> usize
         return 0;
     }
     let start = piece_start(t, from, c);
-    copies_length(&t[start..c], n)
+    copies_length(behind_sign(&t[start..c]), n)
 }
 
 // How long a filled value is with its `:all` spread over n layouts.
@@ -209,7 +257,7 @@ fn put_first(t: &[u8], i: usize, c: usize, out: &mut [u8], at: u32) -> u32
         output::copy(t, i, c, out, a);
         out[a + n] = b':';
         out[a + n + 1] = b'1';
-        return output::past(at, n + 2);
+        return at + (n + 2) as u32;
     }
     let e = output::put_part(t, i, c, out, at);
     put_end(1, out, e)

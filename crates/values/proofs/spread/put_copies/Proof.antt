@@ -1,6 +1,7 @@
 use borrow.Author.Needs.{needs}
 use native.Mathlib.Omega.{arith}
 use Prim.Native.Nat.{_+_, _-_}
+use mathlib.Core.List.{_∷_}
 use Rattle.values.proofs.Copying.{Copying, copying-start, copying-more, copying-end}
 use Rattle.values.proofs.spread.put_copies.Statement.{statement}
 use Rattle.values.proofs.spread.put_copies.Tie as tie
@@ -9,16 +10,16 @@ use Rattle.values.proofs.spread.put_copies.Lts as lts
 use Rattle.values.proofs.spread.put_copy.Reads as put-copy-reads
 
 abbrev Inv-loop : tie.InvT-loop
-Inv-loop t n out₀ at k₀ o₀ out k o = Copying t n out₀ out at k o
+Inv-loop sign rest n out₀ at k₀ o₀ out k o = Copying (sign ∷ rest) n out₀ out at k o
 
 abbrev μ-loop : tie.MeasureT-loop
-μ-loop t n out₀ at k₀ o₀ out k o = n + 1 - k
+μ-loop sign rest n out₀ at k₀ o₀ out k o = n + 1 - k
 
 loop-holds : tie.Need-loop-holds Inv-loop μ-loop
-loop-holds c = copying-start _ _ _ _ (c .before .before .pre .0) (c .before .before .pre .2) (c .before .before .pre .3)
+loop-holds c = copying-start _ _ _ _ (c .before .before .pre .0) (c .before .before .pre .3) (c .before .before .pre .4)
 
 put-copy-requires : tie.Need-put-copy-requires Inv-loop μ-loop
-put-copy-requires c κs = (c .before .before .loop .inv .some, omega (arith, c .before .before .before .before .before .pre .1), omega (arith, c .before .before .loop .inv .left .long, c .before .before .before .before .before .pre .2))
+put-copy-requires c κs = (c .before .before .loop .inv .some, omega (arith, c .before .before .before .before .before .pre .1), c .before .before .before .before .before .pre .2, omega (arith, c .before .before .loop .inv .left .long, c .before .before .before .before .before .pre .3))
 
 add-k : tie.Need-add-k Inv-loop μ-loop
 add-k c = search needs

@@ -1,11 +1,11 @@
 use borrow.Author.Needs.{needs}
+use mathlib.Core.Path.{refl}
 use Rattle.values.proofs.Spreading.{first-inside, first-wrote, first-then}
 use Rattle.values.proofs.spread.put_first.Statement.{statement}
 use Rattle.values.proofs.spread.put_first.Tie as tie
 use Rattle.values.proofs.spread.put_first.Reads as reads
 use Rattle.values.proofs.spread.put_first.Lts as lts
 use Rattle.output.proofs.copy.Reads as copy-reads
-use Rattle.output.proofs.past.Reads as past-reads
 use Rattle.output.proofs.put_part.Reads as put-part-reads
 use Rattle.output.proofs.wide.Reads as wide-reads
 use Rattle.values.proofs.spread.put_end.Reads as put-end-reads
@@ -40,17 +40,20 @@ add-out-3 c = search needs
 slice-write-out-2 : tie.Need-slice-write-out-2
 slice-write-out-2 c = first-inside _ _ _ _ _ (c .before .before .copy .ensures) (c .before .before .before .before .if1 .taken)
 
-add-past : tie.Need-add-past
-add-past c = search needs
+add-result : tie.Need-add-result
+add-result c = search needs
 
-past-requires : tie.Need-past-requires
-past-requires c κs = search needs
+cast-result : tie.Need-cast-result
+cast-result c = search needs
+
+add-result-2 : tie.Need-add-result-2
+add-result-2 c = search needs
 
 same-length : tie.Need-same-length
 same-length c = search needs
 
 returns : tie.Need-returns
-returns c = first-wrote _ (c .before .before .before .before .before .before .before .before .before .args .t .now) (c .before .before .before .before .before .before .before .before .before .args .i) (c .before .before .before .before .before .before .before .before .before .args .c) _ (c .before .before .before .before .before .before .before .before .before .pre .0) (c .before .before .before .before .before .before .before .before .before .pre .1) _ _ _ (c .before .before .before .before .before .before .wide .ensures .0) (c .before .before .before .copy .ensures) (c .past .ensures)
+returns c = first-wrote _ (c .before .before .before .before .before .before .before .before .args .t .now) (c .before .before .before .before .before .before .before .before .args .i) (c .before .before .before .before .before .before .before .before .args .c) _ (c .before .before .before .before .before .before .before .before .pre .0) (c .before .before .before .before .before .before .before .before .pre .1) _ _ _ (c .before .before .before .before .before .wide .ensures .0) (c .before .before .before .before .if1 .taken) (c .before .before .before .before .before .before .before .before .pre .2) (c .before .before .copy .ensures) refl
 
 put-part-requires : tie.Need-put-part-requires
 put-part-requires c κs = search needs
@@ -78,8 +81,9 @@ put-first-spec =
     add-out-2
     add-out-3
     slice-write-out-2
-    add-past
-    past-requires
+    add-result
+    cast-result
+    add-result-2
     same-length
     returns
     put-part-requires

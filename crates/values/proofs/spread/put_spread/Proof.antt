@@ -53,7 +53,7 @@ put-first-requires : tie.Need-put-first-requires Inv-loop μ-loop
 put-first-requires c κs = (c .before .before .find-all .ensures .free .low, c .before .before .find-all .ensures .free .high, omega (arith, c .before .before .before .loop .inv .left .long, c .before .before .before .before .before .before .before .before .pre .3), c .before .before .before .loop .inv .left .low)
 
 put-more-requires : tie.Need-put-more-requires Inv-loop μ-loop
-put-more-requires c κs = let w = spreading-copies _ _ _ _ _ _ _ (c .before .before .before .before .before .before .before .loop .inv) _ (c .before .before .before .before .before .before .find-all .ensures) _ _ (c .before .before .before .before .before .if2 .left) (c .before .before .before .before .before .before .before .before .before .before .before .before .pre .0) (c .before .before .before .put-first .ensures) in (c .before .before .before .before .before .before .find-all .ensures .free .low, c .before .before .before .before .before .if2 .left, c .before .before .before .before .before .before .before .before .before .before .before .before .pre .0, c .before .before .before .before .before .before .before .before .before .before .before .before .pre .1, omega (arith, w .long, c .before .before .before .before .before .before .before .before .before .before .before .before .pre .3), w .low)
+put-more-requires c κs = let w = spreading-copies _ _ _ _ _ _ _ (c .before .before .before .before .before .before .before .loop .inv) _ (c .before .before .before .before .before .before .find-all .ensures) _ _ (c .before .before .before .before .before .if2 .left) (c .before .before .before .before .before .before .before .before .before .before .before .before .pre .0) (c .before .before .before .put-first .ensures) in (c .before .before .before .before .before .before .find-all .ensures .free .low, c .before .before .before .before .before .if2 .left, c .before .before .before .before .before .before .before .before .before .before .before .before .pre .0, c .before .before .before .before .before .before .before .before .before .before .before .before .pre .1, c .before .before .before .before .before .before .before .before .before .before .before .before .pre .2, omega (arith, w .long, c .before .before .before .before .before .before .before .before .before .before .before .before .pre .3), w .low)
 
 add-i : tie.Need-add-i Inv-loop μ-loop
 add-i c = omega (arith, c .before .before .before .before .before .before .before .before .before .find-all .ensures .free .high, c .before .before .before .before .before .before .before .before .before .before .before .before .before .before .before .pre .2)

@@ -1,0 +1,75 @@
+use borrow.Author.Needs.{needs}
+use native.Mathlib.Omega.{arith}
+use mathlib.Core.Path.{refl}
+use lib.ListN.{length-set}
+use Rattle.values.proofs.Copying.{copy-written, copy-inside, copy-long}
+use Rattle.values.proofs.spread.write_copy.Statement.{statement}
+use Rattle.values.proofs.spread.write_copy.Tie as tie
+use Rattle.values.proofs.spread.write_copy.Reads as reads
+use Rattle.values.proofs.spread.write_copy.Lts as lts
+use Rattle.output.proofs.copy.Reads as copy-reads
+
+slice-write-out : tie.Need-slice-write-out
+slice-write-out c = search needs
+
+add-copy : tie.Need-add-copy
+add-copy c = search needs
+
+copy-requires : tie.Need-copy-requires
+copy-requires c κs = (omega arith, omega arith, omega (arith, length-set (c .before .before .before .args .out .now) (c .before .before .before .args .at) (c .before .before .before .args .sign), c .before .before .before .pre .3))
+
+add-out : tie.Need-add-out
+add-out c = search needs
+
+add-out-2 : tie.Need-add-out-2
+add-out-2 c = search needs
+
+slice-write-out-2 : tie.Need-slice-write-out-2
+slice-write-out-2 c = copy-inside (c .before .before .before .before .before .before .args .out .now) _ (c .before .before .before .before .before .before .args .sign) (c .before .before .before .before .before .before .args .rest .now) (c .before .before .before .before .before .before .args .at) (c .before .before .before .before .before .before .pre .3) (c .before .before .copy .ensures) .0
+
+add-out-3 : tie.Need-add-out-3
+add-out-3 c = search needs
+
+cast-out : tie.Need-cast-out
+cast-out c = search needs
+
+add-out-4 : tie.Need-add-out-4
+add-out-4 c = search needs
+
+add-out-5 : tie.Need-add-out-5
+add-out-5 c = search needs
+
+slice-write-out-3 : tie.Need-slice-write-out-3
+slice-write-out-3 c = copy-inside (c .before .before .before .before .before .before .args .out .now) _ (c .before .before .before .before .before .before .args .sign) (c .before .before .before .before .before .before .args .rest .now) (c .before .before .before .before .before .before .args .at) (c .before .before .before .before .before .before .pre .3) (c .before .before .copy .ensures) .1
+
+add-result : tie.Need-add-result
+add-result c = search needs
+
+add-result-2 : tie.Need-add-result-2
+add-result-2 c = search needs
+
+same-length : tie.Need-same-length
+same-length c = copy-long (c .before .before .before .before .before .before .args .out .now) _ _ (c .before .before .before .before .before .before .args .sign) (c .before .before .before .before .before .before .args .at) _ _ _ _ _ (c .before .before .copy .ensures)
+
+returns : tie.Need-returns
+returns c = (copy-written (c .before .before .before .before .before .before .args .out .now) _ (c .before .before .before .before .before .before .args .sign) (c .before .before .before .before .before .before .args .rest .now) (c .before .before .before .before .before .before .args .k) (c .before .before .before .before .before .before .args .at) (c .before .before .before .before .before .before .pre .0) (c .before .before .before .before .before .before .pre .1) (c .before .before .before .before .before .before .pre .2) (c .before .before .copy .ensures), refl)
+
+pub write-copy-spec : {M : Type 1} → statement M
+write-copy-spec =
+    tie.close
+    (tie.spec
+    slice-write-out
+    add-copy
+    copy-requires
+    add-out
+    add-out-2
+    slice-write-out-2
+    add-out-3
+    cast-out
+    add-out-4
+    add-out-5
+    slice-write-out-3
+    add-result
+    add-result-2
+    same-length
+    returns)
