@@ -1,9 +1,9 @@
 -- What every answer is; the answers of joined files, and of profiles with the same options.
 use Prim.Native.Nat.{ℕ, zero, suc, _+_, _≤_}
 use native.Mathlib.Omega.{arith}
-use mathlib.Core.Path.{_≡_, refl, sym, _∙_}
+use mathlib.Core.Path.{_≡_, refl, _∙_}
 use mathlib.Core.List.{List, [], _∷_, _++_, map}
-use mathlib.Core.Bool.{Bool, true, false, _||_}
+use mathlib.Core.Bool.{true}
 use lib.ListN.{length}
 use lib.Dec.{ltb, leb}
 use borrow.Author.Tests.{le-ltb, ltb-false, leb-true}
@@ -12,8 +12,8 @@ use Rattle.text.specs.Limits.{longestFile, longestTotal, mostGroups}
 use Rattle.text.specs.Bytes.{Text, allOf, apart}
 use Rattle.text.specs.Lines.{closed}
 use Rattle.text.specs.Refusals.{refusedIf, isNumber, hasNumber}
-use Rattle.text.proofs.Lists.{no, and-both, all-append, nil-left, nil-right}
-use Rattle.text.proofs.Numbers.{if-number}
+use Rattle.text.proofs.Lists.{and-both, neither, all-append, nil-left, nil-right}
+use Rattle.text.proofs.Numbers.{if-number, clear-if}
 use Rattle.profile.specs.Profile.{Texts, profileOf}
 use Rattle.profile.specs.Options.{Alike, Within, withOptions}
 use Rattle.profile.specs.Refusals.{profileRefusals}
@@ -51,19 +51,10 @@ numbers room f t =
     all-append hasNumber (profileRefusals t) _ (profile-numbers t)
     (all-append hasNumber (fileRefusals f) _ (file-numbers f) (if-number _ 11 0 refl))
 
-fits : (t : Bool) (n p : ℕ) → refusedIf t n p ≡ [] → t ≡ false
-unfolding refusedIf
-fits true n p h = cc
-fits false n p h = refl
-
-pub neither : (a b : Bool) → a || b ≡ false → (a ≡ false) × (b ≡ false)
-neither true b h = absurd (no (sym h))
-neither false b h = (refl, h)
-
 accepted-fits : (room : ℕ) (f : Text) (t : Texts) → refusals room f t ≡ [] → Answered room (firstOf [] (tenTexts f t))
 unfolding refusals noRoom firstOf Answered
 accepted-fits room f t e =
-    let k = fits (noRoom room (total (tenTexts f t))) 11 0 (nil-right (fileRefusals f) _ (nil-right (profileRefusals t) _ e)) in
+    let k = clear-if (noRoom room (total (tenTexts f t))) 11 0 (nil-right (fileRefusals f) _ (nil-right (profileRefusals t) _ e)) in
     let w = neither (ltb room (total (tenTexts f t))) (ltb longestTotal (total (tenTexts f t))) k in
     (ten-texts f t, ltb-false room _ (w .0), ltb-false longestTotal _ (w .1))
 

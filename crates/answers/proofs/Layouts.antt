@@ -43,7 +43,7 @@ any-later n h = let e : n ≡ suc (n - 1) = omega arith in ap (λ (m : ℕ). upF
     step m = refl
 
 -- each layout of a range is one of the profile's, and there are n of `any`
-up-length : (j k : ℕ) → length (upFrom j k) ≡ j
+pub up-length : (j k : ℕ) → length (upFrom j k) ≡ j
 unfolding upFrom
 up-length zero k = refl
 up-length (suc j) k = ap suc (up-length j (k + 1))

@@ -11,13 +11,12 @@ use borrow.Author.Tests.{lt-ltb, ltb-true, ltb-false}
 use borrow.Rule.Slice.PartMut.{midOf, postOf, post-is}
 use Rattle.text.specs.Limits.{longestTotal}
 use Rattle.text.specs.Bytes.{Text}
-use Rattle.text.proofs.Lists.{or-right}
+use Rattle.text.proofs.Lists.{or-right, neither}
 use Rattle.output.specs.Store.{farthest, past}
 use Rattle.answers.specs.Firings.{Firing}
 use Rattle.answers.specs.Answer.{textsFrom, sum, joined, total, noRoom, accepted, bufferAfter}
 use Rattle.firing.specs.Writing.{startingAt, runCur, runBuf, Low, starts}
 use Rattle.firing.specs.Stage.{between, Reached}
-use Rattle.answers.proofs.Answers.{neither}
 use Rattle.firing.proofs.Regions.{Apart, apart-starts, all-joined, grown}
 use Rattle.firing.proofs.Written.{left, written, measured, moved-most, Moved, moved-run, left-all}
 

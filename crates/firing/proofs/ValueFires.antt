@@ -2,16 +2,15 @@
 use Prim.Native.Nat.{ℕ, zero, suc, _+_, _-_, _≤_, _<_}
 use native.Mathlib.Omega.{arith}
 use native.Mathlib.Numerals.{add-one}
-use mathlib.Core.Path.{_≡_, refl, sym}
+use mathlib.Core.Path.{_≡_, refl}
 use mathlib.Core.List.{List, [], _∷_, _++_}
-use mathlib.Core.Bool.{Bool, true, false, _||_}
 use lib.ListN.{length, take, drop, getD, length-take, drop-of-length-le}
 use lib.Seq.{drop-cons, getD-take}
 use lib.Dec.{ltb}
 use borrow.Author.Tests.{ltb-false}
 use Rattle.text.specs.Bytes.{Text, Words, anyOf, concatMap}
 use Rattle.text.specs.Words.{tooLong}
-use Rattle.text.proofs.Lists.{no}
+use Rattle.text.proofs.Lists.{neither}
 use Rattle.profile.specs.Profile.{Profile, fields, textsOf, profileOf}
 use Rattle.values.specs.Values.{filled}
 use Rattle.values.specs.Filling.{Filled}
@@ -91,17 +90,9 @@ module _ (p : Profile) (d₀ : Text) (q₀ : Cursors) (k : ℕ) (cs : List ℕ) 
         over : (l : ℕ) → (d ≡ runBuf d₀ q₀ (ruleFires p l k (take (count - from) cs) (drop from ws))) × (q ≡ runCur q₀ (ruleFires p l k (take (count - from) cs) (drop from ws)))
         over l = going-end d₀ q₀ _ d q (rw (none l) at (v .going l))
 
-or-first : (a b : Bool) → (a || b) ≡ false → a ≡ false
-or-first true b h = absurd (no (sym h))
-or-first false b h = refl
-
-or-second : (a b : Bool) → (a || b) ≡ false → b ≡ false
-or-second true b h = absurd (no (sym h))
-or-second false b h = h
-
 -- a word that is not too long has room in the scratch
 pub word-room : (ws : Words) (j : ℕ) → ShortWords ws → j < length ws → length (getD ws j []) ≤ 256
 unfolding anyOf tooLong
 word-room [] j h l = absurd (omega arith)
-word-room (w ∷ ws) zero h l = ltb-false 256 (length w) (or-first (ltb 256 (length w)) (anyOf tooLong ws) h)
-word-room (w ∷ ws) (suc j) h l = word-room ws j (or-second (ltb 256 (length w)) (anyOf tooLong ws) h) (omega arith)
+word-room (w ∷ ws) zero h l = ltb-false 256 (length w) (neither (ltb 256 (length w)) (anyOf tooLong ws) h .0)
+word-room (w ∷ ws) (suc j) h l = word-room ws j (neither (ltb 256 (length w)) (anyOf tooLong ws) h .1) (omega arith)

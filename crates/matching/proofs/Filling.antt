@@ -3,7 +3,7 @@ use Prim.Native.Nat.{ℕ, zero, suc, _+_, _*_, _-_, _≤_, _<_}
 use native.Mathlib.Omega.{arith}
 use mathlib.Core.Path.{_≡_, refl, sym, ap, _∙_}
 use mathlib.Core.List.{List, [], _∷_}
-use mathlib.Core.Bool.{Bool, true, false, _||_, cond, or-assoc}
+use mathlib.Core.Bool.{Bool, true, false, _||_, cond, or-assoc, or-false}
 use lib.ListN.{length, getD, set, drop, length-set}
 use lib.Seq.{getD-set-same, getD-set-other}
 use lib.Dec.{eqb, leb, ltb}
@@ -23,13 +23,9 @@ same-turned a b =
     (λ h. ap (λ (x : Text). same b x) (same-eq a b h) ∙ same-self b)
     (λ h. ap (λ (x : Text). same a x) (same-eq b a h) ∙ same-self a)
 
-or-none : (a : Bool) → a ≡ (a || false)
-or-none true = refl
-or-none false = refl
-
 one-word : (v w : Text) → same v w ≡ anyOf (same v) (w ∷ [])
 unfolding anyOf
-one-word v w = or-none (same v w)
+one-word v w = sym (or-false (same v w))
 
 -- one word, by the number of the question
 
@@ -171,7 +167,7 @@ module _ (rows : List Bool) (g j : ℕ) where
       }
 
   pub question-no : length rows ≡ 640 → (b : Bool) → b ≡ false → QuestionMarked rows rows g j b
-  question-no z b t = record { size = z; old = λ i m. refl; this = rw t (or-none (getD rows (10 * g + j) false)); other = λ i n. refl }
+  question-no z b t = record { size = z; old = λ i m. refl; this = rw t (sym (or-false (getD rows (10 * g + j) false))); other = λ i n. refl }
 
 -- the questions of one word, those below j answered
 pub record Marking (p : Profile) (ms : Words) (rows rows′ : List Bool) (g j : ℕ) : Type 0 where
@@ -212,7 +208,7 @@ module _ (p : Profile) (ms : Words) (rows : List Bool) (g : ℕ) where
         go i m true e = v .done i (ltb-true i j e)
         go i m false e =
             let k : i ≡ j = omega (arith, ltb-false i j e) in
-            rw (k, a) (v .rest j (omega arith) ∙ or-none (getD rows (10 * g + j) false))
+            rw (k, a) (v .rest j (omega arith) ∙ sym (or-false (getD rows (10 * g + j) false)))
 
     pub marking-end : 10 ≤ j → Marked p ms rows rows′ g
     marking-end h = record { size = v .size; old = v .old; new = λ i l. v .done i (omega arith) }
@@ -261,7 +257,7 @@ module _ (x : Texts) (w : Text) (rows r : List Bool) (g : ℕ) (v : Marking (pro
 
 marked-none : (x : Texts) (rows : List Bool) (g : ℕ) → length rows ≡ 640 → Marked (profileOf x) [] rows rows g
 marked-none x rows g z =
-    record { size = z; old = λ i l. refl; new = λ j l. or-none (getD rows (10 * g + j) false) ∙ ap (λ (b : Bool). getD rows (10 * g + j) false || b) (sym (asked-none (profileOf x) j (option-never x))) }
+    record { size = z; old = λ i l. refl; new = λ j l. sym (or-false (getD rows (10 * g + j) false)) ∙ ap (λ (b : Bool). getD rows (10 * g + j) false || b) (sym (asked-none (profileOf x) j (option-never x))) }
 
 marked-then : (x : Texts) (w : Text) (ms : Words) (r₀ r₁ r₂ : List Bool) (g : ℕ) → Marked (profileOf x) (w ∷ []) r₀ r₁ g → Marked (profileOf x) ms r₁ r₂ g →
     Marked (profileOf x) (w ∷ ms) r₀ r₂ g

@@ -10,6 +10,7 @@ use lib.Seq.{drop-cons}
 use lib.Dec.{eqb, ltb, leb}
 use borrow.Author.Tests.{eq-eqb, ne-eqb, eqb-false, leb-true, lt-ltb, le-ltb, le-leb, lt-leb}
 use Rattle.text.specs.Bytes.{anyOf}
+use Rattle.text.proofs.Lists.{any-nil}
 use Rattle.rules.specs.declared.Column.{Column}
 use Rattle.rules.specs.declared.Column.the-variants as column
 use Rattle.rules.specs.declared.SetHeading.{SetHeading}
@@ -19,6 +20,7 @@ use Rattle.rules.specs.Headings.{upFrom}
 use Rattle.matching.specs.declared.Range.{Range}
 use Rattle.answers.specs.Layouts.{layoutsAt, perLayout, layoutsOf}
 use Rattle.answers.specs.Matching.{isOptions}
+use Rattle.answers.proofs.Layouts.{up-length}
 use Rattle.matching.specs.Held.{columnBy, headingBy}
 use Rattle.matching.specs.Ranges.{FromOne}
 
@@ -72,10 +74,6 @@ any-cons : (p : Column → Bool) (c : Column) (cs : List Column) → anyOf p (c 
 unfolding anyOf
 any-cons p c cs = refl
 
-any-none : (p : Column → Bool) → anyOf p [] ≡ false
-unfolding anyOf
-any-none p = refl
-
 pub record ColumnsFrom (p : Column → Bool) (xs : List ℕ) (n i : ℕ) : Type 0 where
   pub high : i ≤ n
   pub rest : anyOf p (map columnBy (take n xs)) ≡ anyOf p (map columnBy (take (n - i) (drop i xs)))
@@ -98,7 +96,7 @@ module _ (p : Column → Bool) (xs : List ℕ) (n i : ℕ) (v : ColumnsFrom p xs
   columns-hit l s e = sym (v .rest ∙ (columns-step l s ∙ rw e))
 
   pub columns-end : n ≤ i → false ≡ anyOf p (map columnBy (take n xs))
-  columns-end l = let e : n - i ≡ 0 = omega arith in sym (v .rest ∙ rw e (any-none p))
+  columns-end l = let e : n - i ≡ 0 = omega arith in sym (v .rest ∙ rw e (any-nil p))
 
 -- the layouts of an index, as a range
 
@@ -172,11 +170,6 @@ module _ (h : SetHeading) (n : ℕ) where
   range-once e = rw e (up-one 0)
 
 -- ranges of the same layouts are the same
-
-up-length : (c f : ℕ) → length (upFrom c f) ≡ c
-unfolding upFrom
-up-length zero f = refl
-up-length (suc c) f = ap suc (up-length c (f + 1))
 
 up-head : (c f : ℕ) → 0 < c → getD (upFrom c f) 0 0 ≡ f
 unfolding upFrom

@@ -2,31 +2,17 @@
 use Prim.Native.Nat.{ℕ, _≤_}
 use native.Mathlib.Omega.{arith}
 use mathlib.Core.Path.{_≡_, refl}
-use mathlib.Core.List.{List, [], _∷_, _++_}
-use mathlib.Core.Bool.{Bool, true, false, cond}
-use lib.Dec.{eqb, ltb}
+use mathlib.Core.List.{[], _++_}
+use mathlib.Core.Bool.{Bool, true, false}
+use lib.Dec.{ltb}
 use lib.ListN.{length}
 use borrow.Author.Tests.{ltb-false}
 use Rattle.text.specs.Limits.{mostLayouts, mostOptions}
-use Rattle.text.specs.Bytes.{Text}
 use Rattle.text.specs.Refusals.{refusedIf}
 use Rattle.text.proofs.Lists.{nil-left, nil-right}
-use Rattle.profile.specs.Profile.{Texts, push, fields, optionsOf, profileOf, layoutCount}
+use Rattle.profile.specs.Profile.{Texts, fields, optionsOf, profileOf, layoutCount}
 use Rattle.profile.specs.Refusals.{textRefusals, countRefusals, profileRefusals}
-
-some-push : (b : ℕ) (fs : List Text) → 1 ≤ length (push b fs)
-unfolding push
-some-push b [] = omega arith
-some-push b (f ∷ fs) = omega arith
-
-some-field : (t : Text) → 1 ≤ length (fields t)
-unfolding fields
-some-field [] = omega arith
-some-field (b ∷ r) = go (eqb b 44)
-  where
-    go : (t : Bool) → 1 ≤ length (cond t ([] ∷ fields r) (push b (fields r)))
-    go true = omega arith
-    go false = some-push b (fields r)
+use Rattle.profile.proofs.Splitting.{some-field}
 
 pub some-layout : (t : Texts) → 1 ≤ layoutCount (profileOf t)
 unfolding layoutCount profileOf

@@ -11,7 +11,7 @@ use borrow.Author.Tests.{ltb-true, ltb-false}
 use Rattle.text.specs.Limits.{mostOptions}
 use Rattle.text.specs.Bytes.{Text, same, empty, part, anyOf}
 use Rattle.text.proofs.Comparing.{drop-at}
-use Rattle.text.proofs.Lists.{same-eq}
+use Rattle.text.proofs.Lists.{same-eq, any-nil}
 use Rattle.profile.specs.Profile.{fields, dropEmpty, optionsOf}
 use Rattle.profile.specs.Splitting.{behind, FieldEnd}
 use Rattle.lookup.specs.Names.{mostNames, Named, namesAt, Added}
@@ -150,10 +150,6 @@ any-more q (y ∷ xs) x = ap (λ (b : Bool). q y || b) (any-more q xs x) ∙ swa
     swap true true c = refl
     swap true false c = refl
     swap false b c = refl
-
-any-nil : (q : Text → Bool) → anyOf q [] ≡ false
-unfolding anyOf
-any-nil q = refl
 
 names-none : (s t : Text) → namesAt s t 0 ≡ []
 unfolding namesAt

@@ -55,20 +55,20 @@ unfolding push
 length-push b [] h = absurd (omega arith)
 length-push b (f ∷ fs) h = refl
 
-length-push-any : (b : ℕ) (fs : List Text) → 1 ≤ length (push b fs)
+some-push : (b : ℕ) (fs : List Text) → 1 ≤ length (push b fs)
 unfolding push
-length-push-any b [] = omega arith
-length-push-any b (f ∷ fs) = omega arith
+some-push b [] = omega arith
+some-push b (f ∷ fs) = omega arith
 
 -- a text has a field
-some-field : (t : Text) → 1 ≤ length (fields t)
+pub some-field : (t : Text) → 1 ≤ length (fields t)
 unfolding fields
 some-field [] = omega arith
 some-field (b ∷ r) = go (eqb b 44)
   where
     go : (t : Bool) → 1 ≤ length (cond t ([] ∷ fields r) (push b (fields r)))
     go true = omega arith
-    go false = length-push-any b (fields r)
+    go false = some-push b (fields r)
 
 -- a text before the first field
 

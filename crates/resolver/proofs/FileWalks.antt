@@ -7,11 +7,12 @@ use lib.ListN.{length}
 use Rattle.text.specs.Bytes.{Text}
 use Rattle.text.specs.Lines.{lines}
 use Rattle.text.specs.Reading.{follow}
+use Rattle.text.proofs.Readers.{no-lines}
 use Rattle.profile.specs.Profile.{Profile}
 use Rattle.rules.specs.Faults.{lineFaults}
 use Rattle.lookup.specs.Names.{namesAt}
 use Rattle.rules.specs.Checking.{atStart, Ready, leftFaults}
-use Rattle.rules.proofs.FileChecks.{scan-start, no-lines}
+use Rattle.rules.proofs.FileChecks.{scan-start}
 use Rattle.firing.specs.declared.Cursors.{Cursors}
 use Rattle.resolver.specs.declared.Walk.{Walk}
 use Rattle.resolver.specs.declared.HeadingAt.{HeadingAt}

@@ -10,7 +10,7 @@ use borrow.Author.Tests.{eq-eqb, ne-eqb, eqb-true, eqb-false}
 use Rattle.text.specs.Limits.{mostGroups}
 use Rattle.text.specs.Bytes.{Text, same, anyOf, first, rest, part}
 use Rattle.text.specs.Reading.{left, ahead, follow, Opens, FoundWord, Passed}
-use Rattle.text.proofs.Lists.{no, nil-left}
+use Rattle.text.proofs.Lists.{no, rest-cons, nil-left}
 use Rattle.text.proofs.Positions.{part-cons}
 use Rattle.text.proofs.Readers.{lineAt, line-first}
 use Rattle.profile.specs.Profile.{Profile}
@@ -45,10 +45,6 @@ dollar-yes s a e h k z = eq-eqb _ _ (first-byte s a e h k ∙ z)
 dollar-no : (s : Text) (a e : ℕ) → a < e → e ≤ length s → (getD s a 0 ≡ 36 → ⊥) → hasDollar (part s a e) ≡ false
 unfolding hasDollar
 dollar-no s a e h k z = ne-eqb _ _ (λ y. z (sym (first-byte s a e h k) ∙ y))
-
-behind-first : (b : ℕ) (r : Text) → rest (b ∷ r) ≡ r
-unfolding rest
-behind-first b r = refl
 
 -- the first word that is read is the first of the line
 first-word : (s : Text) (from m a e l f : ℕ) → FoundWord s from m a e l f → getD (left s from) 0 [] ≡ part s a e
@@ -97,7 +93,7 @@ module _ (pr : Profile) (s t : Text) (p : Progress) (q : Cursors) (d : Text) (fr
       heading-is (namesAt s t (p .groups)) (p .present) 0 (left s from) fault-none .group-line (rw (first-word s from m a e l f u) b)
 
   name-is : rest (part s a e) ≡ part s (a + 1) e
-  name-is = rw (part-cons s a e (u .some) (u .high)) (behind-first (getD s a 0) (part s (a + 1) e))
+  name-is = rw (part-cons s a e (u .some) (u .high)) (rest-cons (getD s a 0) (part s (a + 1) e))
 
   entry : entryOf (lineOf 0 true (left s from)) ≡ group (part s (a + 1) e) (drop 1 (left s e))
   unfolding IsKind

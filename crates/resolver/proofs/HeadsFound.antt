@@ -8,13 +8,13 @@ use lib.ListN.{length}
 use Rattle.text.specs.Bytes.{Text, Words}
 use Rattle.text.specs.Lines.{Line, lines}
 use Rattle.text.specs.Reading.{follow, Opens}
-use Rattle.text.proofs.Readers.{lineAt, line-first}
+use Rattle.text.proofs.Readers.{no-lines, lineAt, line-first}
 use Rattle.text.proofs.Lists.{no}
 use Rattle.profile.specs.Profile.{Profile}
 use Rattle.rules.specs.declared.Present.{Present}
 use Rattle.rules.specs.Faults.{Groups}
 use Rattle.rules.specs.Checking.{lineOf, checkFrom, toHeading, fromHeading, mostHeads, HeadAt}
-use Rattle.rules.proofs.FileChecks.{to-heading, to-other, to-none, from-next, no-lines}
+use Rattle.rules.proofs.FileChecks.{to-heading, to-other, to-none, from-next}
 use Rattle.resolver.specs.declared.HeadingAt.{HeadingAt}
 use Rattle.resolver.specs.Running.{firingsFrom, NextHeading}
 use Rattle.resolver.specs.Heads.{AllHeads, NextHead, KthHeading}

@@ -2,7 +2,7 @@
 use Prim.Native.Nat.{ℕ, _-_, _≤_}
 use mathlib.Core.Path.{_≡_, refl, sym, ap, _∙_}
 use mathlib.Core.List.{List, [], _∷_, _++_, map}
-use mathlib.Core.Bool.{Bool, true, false}
+use mathlib.Core.Bool.{true, false}
 use lib.ListN.{length, take}
 use lib.Seq.{length-take-le}
 use lib.Dec.{leb, ltb}
@@ -13,7 +13,8 @@ use Rattle.text.specs.declared.Refusal.{Refusal}
 use Rattle.text.specs.Limits.{longestText, longestFile, longestTotal, mostLayouts}
 use Rattle.text.specs.Bytes.{Text, allOf, anyOf}
 use Rattle.text.specs.Refusals.{refusedIf, firstRefusal, isNumber, hasNumber}
-use Rattle.text.proofs.Lists.{and-both, nil-left, nil-right}
+use Rattle.text.proofs.Lists.{and-both, neither, nil-left, nil-right}
+use Rattle.text.proofs.Numbers.{clear-if}
 use Rattle.output.specs.Store.{farthest}
 use Rattle.profile.specs.Profile.{Texts, fields, textsOf, profileOf, layoutCount}
 use Rattle.profile.specs.Refusals.{outside, longField, badText, textRefusals, countRefusals, profileRefusals}
@@ -31,7 +32,7 @@ use Rattle.answers.specs.Firings.{fileFirings}
 use Rattle.answers.specs.Answer.{tenTexts, sum, total, noRoom, refusals, Answer, refused, accepted, firstOf, answer, numberOf, placeOf, lengthsOf, outcome, bufferAfter, Answered}
 use Rattle.firing.specs.Writing.{startingAt, runBuf, Low, starts}
 use Rattle.firing.specs.Stage.{stageSize, regions, inRegions, textsAt, Staged}
-use Rattle.answers.proofs.Answers.{neither, answered}
+use Rattle.answers.proofs.Answers.{answered}
 use Rattle.firing.proofs.Measured.{low-starts, written-by}
 use Rattle.firing.proofs.Staged.{stage-texts}
 
@@ -50,11 +51,6 @@ refused-first [] more ts h = absurd (h refl)
 refused-first (r ∷ rs) more ts h = refl
 
 -- What is known of the four texts where nothing is refused of them.
-
-clear-if : (b : Bool) (n p : ℕ) → refusedIf b n p ≡ [] → b ≡ false
-unfolding refusedIf
-clear-if true n p h = cc
-clear-if false n p h = refl
 
 short-fields : (t : Text) (fs : List Text) → badText t fs ≡ false → anyOf longField fs ≡ false
 unfolding badText

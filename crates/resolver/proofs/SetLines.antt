@@ -6,7 +6,7 @@ use mathlib.Core.List.{List, [], _∷_, map}
 use mathlib.Core.Bool.{Bool, true, false, not, _&&_, cond}
 use lib.ListN.{length, length-append}
 use lib.Dec.{eqb, ltb}
-use borrow.Author.Tests.{ltb-true, ltb-false}
+use borrow.Author.Tests.{ltb-true, ltb-false, not-true}
 use Rattle.text.specs.Bytes.{Text, Words, same, bytes, empty, rest, allOf, concatMap}
 use Rattle.text.specs.Words.{wordsFault}
 use Rattle.text.proofs.Lists.{no, and-both}
@@ -125,13 +125,9 @@ unfolding empty
 some-items [] e = e
 some-items (w ∷ ws) e = refl
 
-not-empty : (b : Bool) → not b ≡ true → b ≡ false
-not-empty true h = absurd (no h)
-not-empty false h = refl
-
 pub set-columns : (ws : Words) (h : Heading) → Good ws h → 1 ≤ length (headingOf (map leftItem (before ws)) (map componentOf (after ws)) .columns)
 unfolding goodItems headingOf setShape
 set-columns ws h g =
     let n = and-both (not (empty (before ws))) _ (g .2) .0 in
     let k = and-both (allOf knownItem (map leftItem (before ws))) _ (g .0) .0 in
-    some-column (map leftItem (before ws)) (some-items (before ws) (not-empty _ n)) k
+    some-column (map leftItem (before ws)) (some-items (before ws) (not-true _ n)) k

@@ -4,7 +4,7 @@ use native.Mathlib.Omega.{arith}
 use mathlib.Core.Path.{_≡_, refl, sym, ap, _∙_}
 use mathlib.Core.List.{List, [], _∷_}
 use mathlib.Core.Bool.{Bool, true, false, cond}
-use lib.ListN.{length, getD, take, drop, drop-of-length-le}
+use lib.ListN.{length, getD, take, drop}
 use lib.Dec.{eqb}
 use borrow.Author.Tests.{eqb-true, eqb-false}
 use Rattle.text.specs.declared.Place.the-variants.{Start}
@@ -12,8 +12,7 @@ use Rattle.text.specs.Bytes.{Text, Words}
 use Rattle.text.specs.Marks.{marks}
 use Rattle.text.specs.Lines.{Line, linesOf, words, heading}
 use Rattle.text.specs.Reading.{left, follow, Opens}
-use Rattle.text.proofs.Positions.{lines-nil}
-use Rattle.text.proofs.Readers.{marks-nil, lineAt, line-first}
+use Rattle.text.proofs.Readers.{no-lines, lineAt, line-first}
 use Rattle.profile.specs.Profile.{Profile, textsOf, profileOf}
 use Rattle.rules.specs.Headings.{Heading}
 use Rattle.rules.specs.Entries.{rule}
@@ -51,10 +50,6 @@ pub heading-first : (s : Text) (at n from m : ℕ) → at < length s → Opens s
     follow s at n ≡ lineOf n true (words false (marks Start (drop at s))) ∷ linesOf n true (marks Start (drop at s))
 unfolding follow lineAt
 heading-first s at n from m h o = rw (line-first s n at h, o .mark)
-
-no-lines : (s : Text) (at n : ℕ) → length s ≤ at → follow s at n ≡ []
-unfolding follow
-no-lines s at n h = rw (drop-of-length-le s h, marks-nil, lines-nil)
 
 module _ (s : Text) (p : Profile) (gs : Groups) (h : Heading) (every : Bool) (k : ℕ) (ns : List Text) (d₀ : Text) (q₀ : Cursors) (ls₀ : List Line) where
   pub record SetGoing (d : Text) (q : Cursors) (at n : ℕ) : Type 0 where

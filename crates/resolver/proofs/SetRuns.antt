@@ -1,6 +1,5 @@
 -- The rules of a set, run line by line at one layout.
 use Prim.Native.Nat.{ℕ, _+_, _-_}
-use native.Mathlib.Omega.{arith}
 use mathlib.Core.Path.{_≡_, refl, sym, _∙_}
 use mathlib.Core.List.{List, [], _∷_, _++_}
 use mathlib.Core.Bool.{Bool, true, false, _&&_, cond}
@@ -24,6 +23,7 @@ use Rattle.rules.specs.Checking.{lineOf, presentOf, presentFault, lineFault, pr
 use Rattle.rules.proofs.Fresh.{as-none}
 use Rattle.rules.proofs.CheckSteps.{check-cons}
 use Rattle.rules.proofs.LineChecks.{form-is}
+use Rattle.rules.proofs.LineKinds.{no-words, some-words}
 use Rattle.answers.specs.Matching.{ruleMatches}
 use Rattle.answers.specs.Firings.{ruleFires, setFires}
 use Rattle.resolver.specs.Running.{rulesFrom}
@@ -70,16 +70,6 @@ pub record CleanLine (ns : List Text) (h : Heading) (n : ℕ) (ws : Words) (ls :
   pub ignored-is : length ws ≡ 0 → entryOf (lineOf n false ws) ≡ ignored
   pub rule-is : (length ws ≡ 0 → ⊥) → entryOf (lineOf n false ws) ≡ rule ws
   pub count : (length ws ≡ 0 → ⊥) → length ws ≡ length (h .columns) + 1 + length (h .components)
-
-no-words : (ws : Words) → length ws ≡ 0 → ruleEntry ws ≡ ignored
-unfolding ruleEntry
-no-words [] h = refl
-no-words (w ∷ ws) h = absurd (omega arith)
-
-some-words : (ws : Words) → (length ws ≡ 0 → ⊥) → ruleEntry ws ≡ rule ws
-unfolding ruleEntry
-some-words [] h = absurd (h refl)
-some-words (w ∷ ws) h = refl
 
 entry-clean : (n : ℕ) (ws : Words) → wordsFault ws ≡ 0 → entryOf (lineOf n false ws) ≡ ruleEntry ws
 unfolding entryOf

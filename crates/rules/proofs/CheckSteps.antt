@@ -18,7 +18,7 @@ use Rattle.text.specs.Lines.{Line, linesOf, words, heading}
 use Rattle.text.specs.Reading.{left, ahead, follow, Fenced, Opens}
 use Rattle.text.proofs.Joined.{shifted, linesOf-shift}
 use Rattle.text.proofs.Readers.{lineAt, line-first}
-use Rattle.text.proofs.Lists.{no}
+use Rattle.text.proofs.Lists.{no, rest-cons}
 use Rattle.text.proofs.Positions.{length-part, part-cons, part-of-part}
 use Rattle.rules.specs.declared.Present.{Present}
 use Rattle.rules.specs.declared.LineKind.{LineKind}
@@ -148,10 +148,6 @@ module _ (s t t′ : Text) (p r : Progress) (ws : Words) (h : Bool) (is : r .hea
 pub zero-none : (k : ℕ) → k ≡ 0 → isNumber k ≡ true → ⊥
 unfolding isNumber
 zero-none k z q = no (rw z at q)
-
-rest-cons : (b : ℕ) (r : Text) → rest (b ∷ r) ≡ r
-unfolding rest
-rest-cons b r = refl
 
 -- each kind of line
 

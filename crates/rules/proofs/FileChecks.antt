@@ -4,7 +4,7 @@ use native.Mathlib.Omega.{arith}
 use mathlib.Core.Path.{_≡_, refl, sym, ap, _∙_}
 use mathlib.Core.List.{List, [], _∷_}
 use mathlib.Core.Bool.{Bool, true, false}
-use lib.ListN.{length, getD, drop, set, drop-of-length-le, length-replicate}
+use lib.ListN.{length, getD, drop, set, length-replicate}
 use lib.Dec.{ltb}
 use native.Mathlib.Numerals.{add-one}
 use borrow.Author.Tests.{lt-ltb, le-ltb, ltb-true, ltb-false}
@@ -14,8 +14,7 @@ use Rattle.text.specs.Bytes.{Text, Words}
 use Rattle.text.specs.Refusals.{refusedIf, firstRefusal}
 use Rattle.text.specs.Lines.{Line, lines}
 use Rattle.text.specs.Reading.{follow}
-use Rattle.text.proofs.Positions.{lines-nil}
-use Rattle.text.proofs.Readers.{marks-nil}
+use Rattle.text.proofs.Readers.{no-lines}
 use Rattle.text.proofs.Pairs.{withPair, pair-length, pair-old, pair-new}
 use Rattle.rules.specs.declared.Progress.{Progress}
 use Rattle.rules.specs.Faults.{lineFaults, fileRefusals}
@@ -44,10 +43,6 @@ scan-start s t h =
       faults = lines-checked s;
       names = defines-named s;
     }
-
-pub no-lines : (s : Text) (at n : ℕ) → length s ≤ at → follow s at n ≡ []
-unfolding follow
-no-lines s at n h = rw (drop-of-length-le s h, marks-nil, lines-nil)
 
 none-left : (s t : Text) (p : Progress) → length s ≤ p .at → (leftFaults s t p ≡ []) × (leftNames s t p ≡ namesAt s t (p .groups))
 unfolding leftFaults leftNames checkFrom namesFrom

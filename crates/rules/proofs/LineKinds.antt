@@ -20,6 +20,7 @@ use Rattle.rules.specs.Splitting.{Tallied}
 use Rattle.rules.specs.declared.SetHeading.{SetHeading}
 use Rattle.rules.specs.Sets.{IsSet}
 use Rattle.rules.specs.Checking.{lineOf, presentBy, presentOf, IsSetLine, IsKind}
+use Rattle.rules.proofs.Sides.{before-low}
 
 -- another way to write the same line
 pub kind-of : (ws : Words) (e e′ : Entry) (k : LineKind) → e ≡ e′ → IsKind ws e′ k → IsKind ws e k
@@ -88,15 +89,6 @@ after-length (w ∷ ws) = go (isEquals w) (after-length ws)
     go true ih = omega arith
     go false ih = omega arith
 
-pub before-length : (ws : Words) → length (before ws) ≤ length ws
-unfolding before
-before-length [] = omega arith
-before-length (w ∷ ws) = go (isEquals w) (before-length ws)
-  where
-    go : (t : Bool) → length (before ws) ≤ length ws → length (cond t [] (w ∷ before ws)) ≤ length (w ∷ ws)
-    go true ih = omega arith
-    go false ih = omega arith
-
 shape-by : (ws : Words) → setShape ws ≡
     (not (eqb (length (before ws)) 0) && (not (eqb (length ws - (length (before ws) + 1)) 0) && not (anyOf isEquals (after ws))))
 unfolding setShape
@@ -161,12 +153,12 @@ module _ (ws : Words) (h : 0 < length ws) where
 
 -- lines
 
-no-words : (ws : Words) → length ws ≡ 0 → ruleEntry ws ≡ ignored
+pub no-words : (ws : Words) → length ws ≡ 0 → ruleEntry ws ≡ ignored
 unfolding ruleEntry
 no-words [] h = refl
 no-words (w ∷ ws) h = absurd (omega arith)
 
-some-words : (ws : Words) → (length ws ≡ 0 → ⊥) → ruleEntry ws ≡ rule ws
+pub some-words : (ws : Words) → (length ws ≡ 0 → ⊥) → ruleEntry ws ≡ rule ws
 unfolding ruleEntry
 some-words [] h = absurd (h refl)
 some-words (w ∷ ws) h = refl
@@ -192,7 +184,7 @@ module _ (n : ℕ) (h : Bool) (ws : Words) where
 
 -- the tally of a line counts no more words before the first `=` than there are
 pub first-count : (ws : Words) (t : Tally) → Tallied ws t → t .first ≤ t .count
-first-count ws t v = omega (arith, v .first, v .count, before-length ws)
+first-count ws t v = omega (arith, v .first, v .count, before-low ws)
 
 pub set-line : (ws : Words) (r : SetHeading) → setShape ws ≡ true → IsSet ws r → r .good ≡ true → IsSetLine (setEntry ws) (presentBy r)
 unfolding presentOf

@@ -11,6 +11,7 @@ use lib.Seq.{drop-cons, take-suc-set, append-snoc}
 use lib.Dec.{eqb, leb, ltb}
 use borrow.Author.Tests.{eq-eqb, ne-eqb, eqb-true, eqb-false, le-leb, lt-leb, leb-true, leb-false, ltb-true, not-true}
 use Rattle.text.specs.Bytes.{anyOf, allOf}
+use Rattle.text.proofs.Lists.{neither}
 use Rattle.rules.specs.declared.Listing.{Listing}
 use Rattle.rules.specs.Headings.{distinct}
 use Rattle.rules.specs.Sets.{nothingListed, spoiled, added, addedAll, addedComponent, addedComponents}
@@ -85,10 +86,6 @@ pub both : (a b : Bool) → (a && b) ≡ true → (a ≡ true) × (b ≡ true)
 both true b h = (refl, h)
 both false b h = absurd (false≢true h)
 
-or-left : (a b : Bool) → (a || b) ≡ false → a ≡ false
-or-left true b h = h
-or-left false b h = refl
-
 -- what keeps a number out: there are five, or it is there
 out : Listing → ℕ → Bool
 out l x = leb 5 (l .count) || anyOf (eqb x) (take (l .count) (l .items))
@@ -160,7 +157,7 @@ module _ (xs : List ℕ) (l : Listing) (x : ℕ) (k : Kept xs l) where
     where
       held : l .good ≡ true → out l x ≡ false → take (added l x .count) (added l x .items) ≡ xs ++ (x ∷ [])
       held g o =
-          let n : leb 5 (length xs) ≡ false = or-left (leb 5 (length xs)) (anyOf (eqb x) xs) (sym (out-kept g) ∙ o) in
+          let n : leb 5 (length xs) ≡ false = neither (leb 5 (length xs)) (anyOf (eqb x) xs) (sym (out-kept g) ∙ o) .0 in
           let s : l .count < length (l .items) = omega (arith, leb-false 5 (length xs) n, k .count g, k .size) in
           rw (added-in l x o, add-one (l .count), take-suc-set (l .items) (l .count) x s, k .held g)
 

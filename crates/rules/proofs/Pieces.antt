@@ -10,7 +10,7 @@ use lib.Seq.{take-all, drop-drop}
 use lib.Dec.{eqb, leb}
 use borrow.Author.Tests.{eqb-true, ne-eqb, le-leb, lt-leb}
 use Rattle.text.specs.Bytes.{Text, anyOf}
-use Rattle.text.proofs.Lists.{and-both}
+use Rattle.text.proofs.Lists.{and-both, any-nil}
 use Rattle.text.proofs.Comparing.{drop-at}
 use Rattle.rules.specs.declared.Which.{Which}
 use Rattle.rules.specs.declared.Which.the-variants as which
@@ -221,10 +221,6 @@ any-cons : {A : Type 0} (p : A → Bool) (a : A) (r : List A) → anyOf p (a ∷
 unfolding anyOf
 any-cons p a r = refl
 
-any-none : {A : Type 0} (p : A → Bool) → anyOf p [] ≡ false
-unfolding anyOf
-any-none p = refl
-
 bad-byte : (i : Bool) (b : ℕ) → Percent.badPiece i (Byte b) ≡ false
 unfolding Percent.badPiece
 bad-byte i b = refl
@@ -241,7 +237,7 @@ module _ (x : Bool) (w : Text) where
   module _ (i : ℕ) (s : Sound x w i) where
     pub sound-end : length w ≤ i → false ≡ Percent.malformed x w
     unfolding Percent.malformed
-    sound-end h = sym (s .rest ∙ rw (drop-of-length-le w h, pieces-none, any-none))
+    sound-end h = sym (s .rest ∙ rw (drop-of-length-le w h, pieces-none, any-nil))
 
     module _ (h : i < length w) where
       pub sound-byte : (getD w i 0 ≡ 37 → ⊥) → Sound x w (i + 1)

@@ -6,7 +6,7 @@ use mathlib.Core.List.{[], _∷_}
 use mathlib.Core.Bool.{Bool, true, false, not, _||_}
 use lib.ListN.{length, getD, take, drop}
 use lib.Dec.{eqb}
-use borrow.Author.Tests.{eq-eqb, ne-eqb, eqb-true, eqb-false}
+use borrow.Author.Tests.{eq-eqb, ne-eqb, eqb-true, eqb-false, not-true}
 use Rattle.text.specs.Bytes.{Text, Words, same, allOf, anyOf, part}
 use Rattle.text.specs.Words.{wordsFault}
 use Rattle.text.specs.Reading.{left, ahead, follow, faultOf, kindOf, Fenced, Blanks, Skipped, PlainFound, ByteWord, NoWord, Opens}
@@ -154,13 +154,9 @@ right-good i (suc r) (w ∷ ws) h =
     record {
       long = ap suc (v .long);
       plain = rw (b .0) (v .plain);
-      percent = rw (never (malformed i w) (c .0)) (v .percent);
+      percent = rw (not-true (malformed i w) (c .0)) (v .percent);
       fine = fine-cons w ws (eqb-true _ _ (a .0)) (v .fine);
     }
-  where
-    never : (b : Bool) → not b ≡ true → b ≡ false
-    never true h = absurd (no h)
-    never false h = refl
 
 record Whole (i : Bool) (r l : ℕ) (ws : Words) : Type 0 where
   pub long : length ws ≡ l + 1 + r

@@ -4,10 +4,11 @@ use native.Mathlib.Omega.{arith}
 use native.Mathlib.Numerals.{add-one}
 use mathlib.Core.Path.{_≡_, refl, sym, _∙_}
 use mathlib.Core.List.{[], _∷_}
-use mathlib.Core.Bool.{Bool, true, false, _||_, _&&_, or-assoc}
+use mathlib.Core.Bool.{Bool, true, false, _||_, _&&_, or-assoc, or-false}
 use lib.ListN.{length, getD, take, drop, drop-of-length-le}
 use lib.Seq.{drop-cons}
 use Rattle.text.specs.Bytes.{Text, Words, allOf, anyOf}
+use Rattle.text.proofs.Lists.{any-nil}
 use Rattle.rules.specs.Words.{ordinary}
 use Rattle.rules.specs.Percent.{malformed}
 use Rattle.rules.specs.Checking.{rightFault}
@@ -26,10 +27,6 @@ any-cons q w ws = refl
 all-none : (q : Text → Bool) → allOf q [] ≡ true
 unfolding allOf
 all-none q = refl
-
-any-none : (q : Text → Bool) → anyOf q [] ≡ false
-unfolding anyOf
-any-none q = refl
 
 -- the words from j up to n are still to be looked at
 pub record AllUpTo (q : Text → Bool) (ws : Words) (n j : ℕ) : Type 0 where
@@ -62,10 +59,6 @@ pub record RightFrom (i : Bool) (ws : Words) (from j : ℕ) (bad : Bool) : Type 
   pub plain : allOf ordinary (drop from ws) ≡ allOf ordinary (drop j ws)
   pub percent : anyOf (malformed i) (drop from ws) ≡ (bad || anyOf (malformed i) (drop j ws))
 
-or-none : (b : Bool) → (b || false) ≡ b
-or-none true = refl
-or-none false = refl
-
 module _ (i : Bool) (ws : Words) (from : ℕ) where
   pub right-start : from ≤ length ws → RightFrom i ws from from false
   right-start h = record { high = h; plain = refl; percent = refl }
@@ -88,7 +81,7 @@ module _ (i : Bool) (ws : Words) (from : ℕ) where
       all-plain = v .plain ∙ rw (drop-of-length-le ws h, all-none)
 
       any-bad : anyOf (malformed i) (drop from ws) ≡ bad
-      any-bad = v .percent ∙ rw (drop-of-length-le ws h, any-none) (or-none bad)
+      any-bad = v .percent ∙ rw (drop-of-length-le ws h, any-nil) (or-false bad)
 
       pub right-bad : bad ≡ true → 8 ≡ rightFault i (drop from ws)
       unfolding rightFault

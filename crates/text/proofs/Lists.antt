@@ -4,9 +4,10 @@ use native.Mathlib.Omega.{arith}
 use mathlib.Core.Path.{_≡_, refl, sym, ap, _∙_}
 use mathlib.Core.List.{List, [], _∷_, _++_, map, append-assoc}
 use mathlib.Core.Bool.{Bool, true, false, _||_, _&&_, cond}
+use lib.ListN.{length}
 use lib.Dec.{eqb}
 use borrow.Author.Tests.{eqb-true, eq-eqb}
-use Rattle.text.specs.Bytes.{Text, same, allOf, anyOf, concatMap, among}
+use Rattle.text.specs.Bytes.{Text, same, empty, rest, allOf, anyOf, concatMap, among}
 
 -- tests
 
@@ -29,12 +30,29 @@ pub or-cases : {C : Type 0} (a b : Bool) → a || b ≡ true → (a ≡ true →
 or-cases true b h f g = f refl
 or-cases false b h f g = g h
 
+pub neither : (a b : Bool) → a || b ≡ false → (a ≡ false) × (b ≡ false)
+neither true b h = absurd (no (sym h))
+neither false b h = (refl, h)
+
 pub both-ways : (s t : Bool) → (s ≡ true → t ≡ true) → (t ≡ true → s ≡ true) → s ≡ t
 both-ways true t f g = sym (f refl)
 both-ways false true f g = g refl
 both-ways false false f g = refl
 
 -- texts
+
+pub nothing : (t : Text) → length t ≡ 0 → t ≡ []
+nothing [] h = refl
+nothing (b ∷ t) h = absurd (omega arith)
+
+pub empty-some : (t : Text) → (length t ≡ 0 → ⊥) → empty t ≡ false
+unfolding empty
+empty-some [] h = absurd (h refl)
+empty-some (b ∷ t) h = refl
+
+pub rest-cons : (b : ℕ) (t : Text) → rest (b ∷ t) ≡ t
+unfolding rest
+rest-cons b t = refl
 
 pub same-eq : (s t : Text) → same s t ≡ true → s ≡ t
 unfolding same
@@ -91,6 +109,10 @@ all-concat q f (a ∷ l) h = all-append q (f a) (concatMap f l) (h a) (all-conca
 pub all-cond {ℓ} : {A : Type ℓ} (q : A → Bool) (t : Bool) (a b : List A) → allOf q a ≡ true → allOf q b ≡ true → allOf q (cond t a b) ≡ true
 all-cond q true a b h k = h
 all-cond q false a b h k = k
+
+pub any-nil {ℓ} : {A : Type ℓ} (q : A → Bool) → anyOf q [] ≡ false
+unfolding anyOf
+any-nil q = refl
 
 -- a test that some text of one list passes, some text of a list that holds all of them passes
 

@@ -1,4 +1,4 @@
--- Each refusal has a number of document 01.
+-- Each refusal has a number of document 01; a test that refuses nothing does not hold.
 use Prim.Native.Nat.{ℕ}
 use mathlib.Core.Path.{_≡_, refl}
 use mathlib.Core.List.{[], _∷_}
@@ -12,6 +12,11 @@ pub if-number : (t : Bool) (n p : ℕ) → isNumber n ≡ true → allOf hasNumb
 unfolding refusedIf allOf hasNumber
 if-number true n p h = rw h
 if-number false n p h = refl
+
+pub clear-if : (t : Bool) (n p : ℕ) → refusedIf t n p ≡ [] → t ≡ false
+unfolding refusedIf
+clear-if true n p h = cc
+clear-if false n p h = refl
 
 -- a number that is 0 or one of document 01's
 pub as-number : (n p : ℕ) → cond (eqb n 0) true (isNumber n) ≡ true → allOf hasNumber (refusedAs n p) ≡ true

@@ -20,7 +20,7 @@ use Rattle.text.specs.Marks.{classOf, Mark, char, gap, join, bang, end, 
 use Rattle.text.specs.Lines.{run, words, feeds, inside, linesOf, lines}
 use Rattle.text.specs.Words.{badByte}
 use Rattle.text.specs.Reading.{left, wordly, inWord, ahead, WordEnd, InWord}
-use Rattle.text.proofs.Lists.{no}
+use Rattle.text.proofs.Lists.{no, any-nil}
 use Rattle.text.proofs.Comparing.{drop-at}
 
 pub first-drop : (s : List ℕ) (i : ℕ) → first (drop i s) ≡ getD s i 0
@@ -216,10 +216,6 @@ pub record NoneBad (s : List ℕ) (from e i : ℕ) : Type 0 where
 pub any-cons : (b : ℕ) (w : List ℕ) → anyOf badByte (b ∷ w) ≡ badByte b || anyOf badByte w
 unfolding anyOf
 any-cons b w = refl
-
-pub any-nil : anyOf badByte [] ≡ false
-unfolding anyOf
-any-nil = refl
 
 module _ (s : List ℕ) (from e i : ℕ) (v : NoneBad s from e i) where
   pub none-bad-hit : i < e → e ≤ length s → badByte (getD s i 0) ≡ true → true ≡ anyOf badByte (part s from e)

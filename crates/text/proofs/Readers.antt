@@ -21,8 +21,8 @@ use Rattle.text.specs.Marks.{classOf, Mark, char, gap, join, bang, end, 
 use Rattle.text.specs.Lines.{run, words, heading, Line, inside, linesOf, lines}
 use Rattle.text.specs.Words.{badByte, tooLong, wordsFault}
 use Rattle.text.specs.Reading.{left, ahead, follow, faultOf, lower, levelOf, kindOf, Fenced, WordEnd, InWord, PlainEnd, RunEnd, OddWord, CommentEnd, Blanks, Skipped, FoundWord, NoWord, Between, FastWord, PlainFound, PlainWord, ValueWord, ByteWord, NextWord, Opens}
-use Rattle.text.proofs.Lists.{no, and-both}
-use Rattle.text.proofs.Positions.{first-drop, part-empty, part-cons, part-snoc, in-word-start, in-word-more, in-word-over, marks-at, step-other, step-feed, comment-words, first-in, any-cons, any-nil, length-part, lines-char, lines-gap, lines-bang, lines-join, lines-end, lines-nil}
+use Rattle.text.proofs.Lists.{no, and-both, any-nil}
+use Rattle.text.proofs.Positions.{first-drop, part-empty, part-cons, part-snoc, in-word-start, in-word-more, in-word-over, marks-at, step-other, step-feed, comment-words, first-in, any-cons, length-part, lines-char, lines-gap, lines-bang, lines-join, lines-end, lines-nil}
 use Rattle.text.proofs.ByteKinds.{pick, not-bad, plain-in-word, kind-one, kind-stop, Begins, begins-char, kind-zero, join-class, note-class, bang-class, differ}
 
 -- plain bytes
@@ -141,9 +141,14 @@ heading-nil : heading [] ≡ false
 unfolding heading
 heading-nil = refl
 
-pub marks-nil : (m : Place) → marks m [] ≡ []
+marks-nil : (m : Place) → marks m [] ≡ []
 unfolding marks
 marks-nil m = refl
+
+-- no lines follow at the end
+pub no-lines : (s : List ℕ) (at n : ℕ) → length s ≤ at → follow s at n ≡ []
+unfolding follow
+no-lines s at n h = rw (drop-of-length-le s h, marks-nil, lines-nil)
 
 pub blanks-start : (s : List ℕ) (from : ℕ) → from ≤ length s → Blanks s from from
 blanks-start s from h = record { low = omega arith; high = h; text = refl; onto = λ n. refl; mark₀ = refl; text₀ = refl; onto₀ = λ n. refl }

@@ -1,12 +1,11 @@
 -- What a percent item stands for, by the ways of `chosen`, `put_item` and `put_piece`.
 use Prim.Native.Nat.{ℕ, _-_, _≤_, _<_}
-use native.Mathlib.Omega.{arith}
 use mathlib.Core.Path.{_≡_, refl, sym, _∙_}
 use mathlib.Core.List.{List, [], _∷_}
-use mathlib.Core.Bool.{false}
 use lib.ListN.{length, getD}
 use borrow.Author.Tests.{eq-eqb, ne-eqb, le-ltb}
 use Rattle.text.specs.Bytes.{Text, empty}
+use Rattle.text.proofs.Lists.{nothing, empty-some}
 use Rattle.output.specs.Store.{farthest, Wrote}
 use Rattle.output.proofs.Stores.{wrote-none, wrote-then}
 use Rattle.profile.specs.Profile.{Profile, textsOf, fields, profileOf, layoutCount}
@@ -74,15 +73,6 @@ module _ (m l v : Text) (k : ℕ) (x : Variable) where
 
 -- a value in parentheses and one with a prefix
 
-nothing : (t : Text) → length t ≡ 0 → t ≡ []
-nothing [] h = refl
-nothing (b ∷ t) h = absurd (omega arith)
-
-something : (t : Text) → (length t ≡ 0 → ⊥) → empty t ≡ false
-unfolding empty
-something [] h = absurd (h refl)
-something (b ∷ t) h = refl
-
 module _ (d : Text) (at : ℕ) (t : Text) where
   pub parens-none : length t ≡ 0 → at ≤ farthest → Wrote d d at (enclosed t) at
   unfolding enclosed empty
@@ -96,11 +86,11 @@ module _ (d : Text) (at : ℕ) (t : Text) where
     pub parens-some : (d₁ d₂ d₃ : Text) (a e r : ℕ) → Wrote d d₁ at (40 ∷ []) a → Wrote d₁ d₂ a t e → Wrote d₂ d₃ e (41 ∷ []) r → Wrote d d₃ at (enclosed t) r
     unfolding enclosed
     parens-some d₁ d₂ d₃ a e r u v w =
-        rw (something t h) (wrote-then d d₂ d₃ at (40 ∷ t) (41 ∷ []) e r l (wrote-then d d₁ d₂ at (40 ∷ []) t a e l u v) w)
+        rw (empty-some t h) (wrote-then d d₂ d₃ at (40 ∷ t) (41 ∷ []) e r l (wrote-then d d₁ d₂ at (40 ∷ []) t a e l u v) w)
 
     pub prefix-some : (b : ℕ) (d₁ d₂ : Text) (a r : ℕ) → Wrote d d₁ at (b ∷ []) a → Wrote d₁ d₂ a t r → Wrote d d₂ at (prefixed b t) r
     unfolding prefixed
-    prefix-some b d₁ d₂ a r u v = rw (something t h) (wrote-then d d₁ d₂ at (b ∷ []) t a r l u v)
+    prefix-some b d₁ d₂ a r u v = rw (empty-some t h) (wrote-then d d₁ d₂ at (b ∷ []) t a r l u v)
 
 -- a value with what an item puts around it
 

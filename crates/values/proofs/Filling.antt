@@ -1,9 +1,9 @@
 -- A word filled piece by piece, and how long it gets.
 use Prim.Native.Nat.{ℕ, zero, suc, _+_, _-_, _*_, _/_, _%_, _≤_, _<_}
 use native.Mathlib.Omega.{arith}
-use mathlib.Core.Path.{_≡_, refl, sym, ap, _∙_}
+use mathlib.Core.Path.{_≡_, refl, ap, _∙_}
 use mathlib.Core.List.{List, [], _∷_, _++_}
-use mathlib.Core.Bool.{Bool, true, false, _||_, _&&_, cond}
+use mathlib.Core.Bool.{Bool, true, false, _&&_, cond}
 use lib.ListN.{length, drop, getD, length-append, length-drop, drop-of-length-le}
 use lib.Seq.{drop-drop}
 use lib.Dec.{eqb, ltb, leb}
@@ -11,7 +11,7 @@ use borrow.Author.Tests.{ltb-false}
 use Rattle.text.specs.Limits.{longestField}
 use Rattle.text.specs.Bytes.{Text, empty, anyOf, concatMap}
 use Rattle.text.proofs.Comparing.{drop-at}
-use Rattle.text.proofs.Lists.{no}
+use Rattle.text.proofs.Lists.{neither}
 use Rattle.output.specs.Store.{farthest, past, Wrote}
 use Rattle.output.proofs.Stores.{take-stored}
 use Rattle.profile.specs.Profile.{Profile, textsOf, fields, profileOf, layoutCount}
@@ -101,10 +101,6 @@ filled-of d d′ t o r h l w e =
 
 -- how long a filled word gets
 
-pub or-none : (a b : Bool) → a || b ≡ false → (a ≡ false) × (b ≡ false)
-or-none true b h = absurd (no (sym h))
-or-none false b h = (refl, h)
-
 short-field : (t : Text) → longField t ≡ false → length t ≤ longestField
 unfolding longField
 short-field t h = ltb-false longestField (length t) h
@@ -113,8 +109,8 @@ short-one : (ts : List Text) (i : ℕ) → anyOf longField ts ≡ false → leng
 unfolding anyOf
 short-one [] zero h = omega arith
 short-one [] (suc i) h = omega arith
-short-one (t ∷ ts) zero h = short-field t (or-none (longField t) (anyOf longField ts) h .0)
-short-one (t ∷ ts) (suc i) h = short-one ts i (or-none (longField t) (anyOf longField ts) h .1)
+short-one (t ∷ ts) zero h = short-field t (neither (longField t) (anyOf longField ts) h .0)
+short-one (t ∷ ts) (suc i) h = short-one ts i (neither (longField t) (anyOf longField ts) h .1)
 
 short-cond : (c : Bool) (t : Text) → length t ≤ longestField → length (cond c t []) ≤ longestField
 short-cond true t h = h

@@ -10,7 +10,7 @@ use lib.Dec.{eqb, ltb, leb}
 use borrow.Author.Tests.{eqb-true, eqb-false, ltb-true, ltb-false, le-leb, lt-leb}
 use Rattle.text.specs.Bytes.{Text, bytes, same, part, concatMap}
 use Rattle.text.proofs.Comparing.{drop-at}
-use Rattle.text.proofs.Lists.{no, or-right, same-eq}
+use Rattle.text.proofs.Lists.{no, or-right, same-eq, nothing}
 use Rattle.text.proofs.Positions.{part-empty, part-cons}
 use Rattle.lookup.proofs.Ranking.{below-or}
 use Rattle.rules.specs.Headings.{decimal}
@@ -213,10 +213,6 @@ closes-short t i h = sym (closes-not (drop i t) (λ e. omega (arith, closes-long
 
 all-signless : (t : Text) (c : ℕ) → closesAll (drop c t) ≡ true → (k : ℕ) → k < 4 → isSign (getD t (c + k) 0) ≡ false
 all-signless t c h k m = ap isSign (sym (getD-drop c t k 0) ∙ closes-byte (drop c t) h k m) ∙ signless k m
-
-nothing : (x : Text) → length x ≡ 0 → x ≡ []
-nothing [] h = refl
-nothing (b ∷ x) h = absurd (omega arith)
 
 pub free-start : (t : Text) (from : ℕ) → from ≤ length t → FreeOfAll t from from
 free-start t from h = record { low = omega arith; high = h; free = λ k a b. absurd (omega arith) }
