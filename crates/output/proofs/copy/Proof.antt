@@ -2,7 +2,6 @@ use Prim.Native.Nat.{_+_, _-_, _≤_}
 use native.Mathlib.Omega.{arith}
 use mathlib.Core.Path.{_≡_, refl, _∙_}
 use lib.ListN.{length, getD, length-set}
-use borrow.Author.Needs.{needs}
 use Rattle.text.specs.Bytes.{part}
 use Rattle.output.specs.Store.{stored}
 use Rattle.output.proofs.Stores.{copied-none, copied-nothing, copied-more, copied-first}
