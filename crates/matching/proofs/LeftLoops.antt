@@ -8,17 +8,18 @@ use mathlib.Core.Bool.{Bool, true, false, _&&_}
 use lib.ListN.{length, getD, drop, drop-of-length-le}
 use lib.Seq.{drop-cons, drop-drop}
 use Rattle.text.specs.Bytes.{Text, Words, part}
-use Rattle.text.specs.Reading.{left, FoundWord, NoWord}
+use Rattle.text.specs.Reading.{left, ahead, FoundWord, NoWord}
 use Rattle.text.proofs.Lists.{no}
 use Rattle.text.proofs.Passing.{Passing, passing-start}
 use Rattle.profile.specs.Profile.{Profile}
 use Rattle.rules.specs.declared.Column.{Column}
+use Rattle.rules.specs.Headings.{Heading}
 use Rattle.rules.specs.declared.SetHeading.{SetHeading}
 use Rattle.answers.specs.Matching.{columnMatches, ruleMatches}
 use Rattle.matching.specs.declared.LeftWord.{LeftWord}
 use Rattle.matching.specs.Rows.{matchesAt}
 use Rattle.matching.specs.Held.{columnBy, headingBy, SetSized}
-use Rattle.matching.specs.Left.{leftMatches, LeftRead, LeftSide}
+use Rattle.matching.specs.Left.{leftMatches, LeftRead}
 use Rattle.matching.proofs.HeldHeadings.{columns-length, column-at, matches-by}
 
 -- one word
@@ -62,6 +63,16 @@ module _ (look : Text → Words) (p : Profile) (k : ℕ) where
           few = few;
           onto = refl;
         }
+
+-- The left words of a line, held against the columns of a heading up to the first that does not match; the line goes on behind them.
+pub record LeftSide (look : Text → Words) (p : Profile) (k : ℕ) (h : Heading) (s : Text) (from n : ℕ) (r : LeftWord) : Type 0 where
+  pub hit : r .matched ≡ true → leftMatches look p k (h .columns) (left s from) ≡ true
+  pub rest : r .matched ≡ true → left s (r .at) ≡ drop (length (h .columns)) (left s from)
+  pub miss : r .matched ≡ false → leftMatches look p k (h .columns) (left s from) ≡ false
+  pub low : from ≤ r .at
+  pub high : r .at ≤ length s
+  pub few : r .line ≤ r .at + 1
+  pub onto : ahead s from n ≡ ahead s (r .at) (r .line)
 
 -- the loop over the columns of a heading
 pub record LeftGoing (look : Text → Words) (p : Profile) (k : ℕ) (h : SetHeading) (s : Text) (from n i m c : ℕ) : Type 0 where

@@ -8,7 +8,6 @@ use Rattle.text.specs.Bytes.{Text, Words}
 use Rattle.text.specs.Reading.{left, ahead}
 use Rattle.profile.specs.Profile.{Profile}
 use Rattle.rules.specs.declared.Column.{Column}
-use Rattle.rules.specs.Headings.{Heading}
 use Rattle.answers.specs.Matching.{columnMatches}
 use Rattle.matching.specs.declared.LeftWord.{LeftWord}
 
@@ -23,16 +22,6 @@ pub record LeftRead (look : Text → Words) (p : Profile) (k : ℕ) (c : Column)
   pub hit : r .matched ≡ true → (cs : List Column) → leftMatches look p k (c ∷ cs) (left s from) ≡ leftMatches look p k cs (left s (r .at))
   pub rest : r .matched ≡ true → left s (r .at) ≡ drop 1 (left s from)
   pub miss : r .matched ≡ false → (cs : List Column) → leftMatches look p k (c ∷ cs) (left s from) ≡ false
-  pub low : from ≤ r .at
-  pub high : r .at ≤ length s
-  pub few : r .line ≤ r .at + 1
-  pub onto : ahead s from n ≡ ahead s (r .at) (r .line)
-
--- The left words of a line, held against the columns of a heading up to the first that does not match; the line goes on behind them.
-pub record LeftSide (look : Text → Words) (p : Profile) (k : ℕ) (h : Heading) (s : Text) (from n : ℕ) (r : LeftWord) : Type 0 where
-  pub hit : r .matched ≡ true → leftMatches look p k (h .columns) (left s from) ≡ true
-  pub rest : r .matched ≡ true → left s (r .at) ≡ drop (length (h .columns)) (left s from)
-  pub miss : r .matched ≡ false → leftMatches look p k (h .columns) (left s from) ≡ false
   pub low : from ≤ r .at
   pub high : r .at ≤ length s
   pub few : r .line ≤ r .at + 1

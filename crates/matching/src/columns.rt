@@ -5,15 +5,14 @@ ghost use mathlib.Core.List.{[]};
 ghost use lib.ListN.{length, getD};
 ghost use Rattle.text.specs.Reading.{Within};
 ghost use mathlib.Core.Bool.{true};
-ghost use Rattle.matching.specs.Held.{columnBy, headingBy, SetSized};
-ghost use Rattle.matching.specs.Left.{LeftRead, LeftSide};
+ghost use Rattle.matching.specs.Held.{columnBy};
+ghost use Rattle.matching.specs.Left.{LeftRead};
 ghost use Rattle.text.specs.Limits.{mostOptions};
 ghost use Rattle.text.specs.Bytes.{same as sameText, anyOf};
 ghost use Rattle.profile.specs.Profile.{textsOf, profileOf, fields, optionsOf};
 ghost use Rattle.profile.specs.Listing.{Listed};
 ghost use Rattle.lookup.specs.Names.{Named};
 ghost use Rattle.answers.specs.Matching.{members};
-ghost use Rattle.answers.specs.Layouts.{perLayout};
 ghost use Rattle.matching.specs.Groups.{groupsAt, Rowed};
 ghost use Rattle.matching.specs.Rows.{Told, ofWord, ofStar, ofValue, matchesAt};
 use super::LeftWord;
@@ -222,79 +221,5 @@ pub fn left_word(
             at: from,
             line,
         },
-    }
-}
-
-// The left words of a line, held against the columns of a heading one by one, up to the first that does not match.
-pub fn left_words(
-    s: &[u8],
-    t: &[u8; 512],
-    fence: usize,
-    from: usize,
-    line: usize,
-    h: SetHeading,
-    k: usize,
-    layout: &[u8],
-    variant: &[u8],
-    names: &[usize; 192],
-    rows: &[bool; 640],
-    n: usize,
-    model: &[u8],
-    layouts: &[u8],
-    variants: &[u8],
-    options: &[u8],
-    table: &[usize; 192],
-    count: usize,
-) -> LeftWord
-    requires { ⌜ Within (now s) (now t) fence from line
-        × Named (now s) (now names) n
-        × Rowed (profileOf (textsOf (now model) (now layouts) (now variants) (now options))) (now s) (now names) (now rows) n
-        × Listed (now options) (now table) count
-        × (length (optionsOf (now options)) ≤ mostOptions)
-        × (k ≤ 4)
-        × SetSized h
-        × (anyOf perLayout (headingBy h .columns) ≡ true → 1 ≤ k)
-        × (now layout ≡ getD (fields (now layouts)) (k - 1) [])
-        × (now variant ≡ getD (fields (now variants)) (k - 1) []) ⌝ }
-    ensures { λ r. ⌜ LeftSide (members (groupsAt (now (s .entry)) (now (names .entry)) n))
-        (profileOf (textsOf (now (model .entry)) (now (layouts .entry)) (now (variants .entry)) (now (options .entry))))
-        k (headingBy h) (now (s .entry)) from line r ⌝ }
-{
-    let columns = h.columns;
-    let mut i = from;
-    let mut l = line;
-    let mut c: usize = 0;
-    while c < h.left {
-        let x = left_word(
-            s,
-            t,
-            fence,
-            i,
-            l,
-            columns[c],
-            k,
-            layout,
-            variant,
-            names,
-            rows,
-            n,
-            model,
-            layouts,
-            variants,
-            options,
-            table,
-            count,
-        );
-        if !x.matched {
-            return x;
-        }
-        i = x.at;
-        l = x.line;
-        c += 1;
-    }
-    LeftWord {
-        matched: true,
-        at: i,
-        line: l,
     }
 }

@@ -13,3 +13,4 @@ pub mod RuleLines
 pub mod HeadingLines
 pub mod HeadsFound
 pub mod GroupLines
+pub mod RuleSeeks

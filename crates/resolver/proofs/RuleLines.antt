@@ -12,29 +12,24 @@ use Rattle.text.specs.declared.Place.the-variants.{Start, Space}
 use Rattle.text.specs.Bytes.{Text, Words, anyOf}
 use Rattle.text.specs.Marks.{marks}
 use Rattle.text.specs.Lines.{Line, linesOf}
-use Rattle.text.specs.Words.{tooLong, wordsFault}
+use Rattle.text.specs.Words.{wordsFault}
 use Rattle.text.specs.Reading.{left, ahead, follow, Opens, Passed}
 use Rattle.text.proofs.Joined.{shifted, linesOf-shift}
 use Rattle.text.proofs.Readers.{lineAt, line-first}
 use Rattle.text.proofs.Lists.{no}
-use Rattle.text.proofs.Passing.{passing-then}
 use Rattle.profile.specs.Profile.{Profile, textsOf, profileOf}
 use Rattle.rules.specs.declared.Present.{Present}
 use Rattle.rules.specs.declared.Split.{Split}
 use Rattle.rules.specs.declared.SetHeading.{SetHeading}
 use Rattle.rules.specs.Entries.{wrong, ruleEntry, entryOf}
-use Rattle.rules.specs.Faults.{Groups, rightWords}
+use Rattle.rules.specs.Faults.{Groups}
 use Rattle.rules.specs.Splitting.{wordsOf, IsSplit}
 use Rattle.rules.specs.Checking.{lineOf, checkFrom}
 use Rattle.firing.specs.declared.Cursors.{Cursors}
 use Rattle.firing.specs.Writing.{ShortWords, FiredRule}
-use Rattle.matching.specs.declared.LeftWord.{LeftWord}
 use Rattle.matching.specs.Held.{headingBy, SetSized}
-use Rattle.matching.specs.Left.{LeftSide}
-use Rattle.matching.proofs.HeldHeadings.{columns-length}
-use Rattle.matching.proofs.LeftLoops.{some-left}
 use Rattle.resolver.specs.declared.RuleRun.{RuleRun}
-use Rattle.resolver.specs.Running.{firingsFrom, FiredLine, PassedRule, RanLine, NextHeading}
+use Rattle.resolver.specs.Running.{firingsFrom, FiredLine, NextHeading}
 use Rattle.resolver.proofs.LineFirings.{nextFirings, firings-line}
 use Rattle.resolver.proofs.SetRuns.{clean-rest}
 use Rattle.resolver.proofs.SetLoops.{right-told, rule-any}
@@ -88,7 +83,7 @@ pub line-any : (a b c o : Text) (cs : List ℕ) (s : Text) (from n : ℕ) (d d�
 line-any a b c o cs s from n d d′ q k r f =
     record { told = f .told; fires = rule-any a b c o d d′ q (r .cursors) k cs (drop 1 (left s from)) (f .fires); passed = f .passed }
 
-any-drop : (f : Text → Bool) (k : ℕ) (ws : Words) → anyOf f ws ≡ false → anyOf f (drop k ws) ≡ false
+pub any-drop : (f : Text → Bool) (k : ℕ) (ws : Words) → anyOf f ws ≡ false → anyOf f (drop k ws) ≡ false
 unfolding anyOf
 any-drop f zero ws h = h
 any-drop f (suc k) [] h = refl
@@ -97,36 +92,6 @@ any-drop f (suc k) (w ∷ ws) h = any-drop f k ws (go (f w) h)
     go : (b : Bool) → b || anyOf f ws ≡ false → anyOf f ws ≡ false
     go true e = absurd (no (sym e))
     go false e = e
-
--- a line run: its left words match and it fired, or they do not
-module _ (s : Text) (from n : ℕ) (h : SetHeading) (sized : SetSized h) (look : Text → Words) (p : Profile) (k : ℕ) (x : LeftWord)
-    (v : LeftSide look p k (headingBy h) s from n x) where
-  onward : (at l : ℕ) → Passed s (x .at) (x .line) at l → Passed s from n at l
-  onward at l w = passing-then s from n (x .at) (x .line) (record { low = v .low; high = v .high; few = v .few; onto = v .onto }) at l w
-
-  pub ran-past : (d : Text) (q : Cursors) (r : RuleRun) → x .matched ≡ false → PassedRule s (x .at) (x .line) q r → RanLine look p (headingBy h) s from n d d q k r
-  ran-past d q r e w =
-      record { hit = λ t. absurd (no (sym (w .told) ∙ t)); miss = λ t. (v .miss e, refl, w .cursors); passed = onward (r .at) (r .line) (w .passed) }
-
-  module _ (e : x .matched ≡ true) where
-    -- behind the left words stand as many words as the heading asks
-    pub right-count : ((length (left s from) ≡ 0 → ⊥) → length (left s from) ≡ h .left + 1 + h .right) → length (left s (x .at)) ≡ 1 + h .right
-    right-count c =
-        let z = c (some-left look p k (headingBy h .columns) (left s from) (rw (columns-length h sized) (sized .some)) (v .hit e)) in
-        ap length (v .rest e) ∙ (length-drop (length (headingBy h .columns)) (left s from) ∙ rw (columns-length h sized) (omega (arith, z)))
-
-    pub right-short : ShortWords (left s from) → ShortWords (left s (x .at))
-    right-short c = rw (v .rest e) (any-drop tooLong (length (headingBy h .columns)) (left s from) c)
-
-    pub ran-fired : (d d′ : Text) (q : Cursors) (r : RuleRun) → FiredLine p (headingBy h .components) s (x .at) (x .line) d d′ q k r →
-        RanLine look p (headingBy h) s from n d d′ q k r
-    unfolding rightWords
-    ran-fired d d′ q r f =
-        record {
-          hit = λ t. (v .hit e, rw (v .rest e, drop-drop 1 (length (headingBy h .columns)) (left s from)) at (f .fires));
-          miss = λ t. absurd (no (sym t ∙ f .told));
-          passed = onward (r .at) (r .line) (f .passed);
-        }
 
 -- a line that is opened, with what is ahead of it
 pub line-opened : (s : Text) (at n : ℕ) (b : Bool) (from m : ℕ) → at < length s → b ≡ false → Opens s at n b from m →

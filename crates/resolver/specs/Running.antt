@@ -1,30 +1,30 @@
 -- What the walk over a file promises at each level: it fires the values that the definition lists.
 use Prim.Native.Nat.{ℕ, _+_, _≤_, _<_}
 use mathlib.Core.Path.{_≡_}
-use mathlib.Core.List.{List, []}
-use mathlib.Core.Bool.{Bool, true, false}
+use mathlib.Core.List.{List, [], _++_}
+use mathlib.Core.Bool.{Bool, true, false, cond}
 use lib.ListN.{length, drop, getD}
 use Rattle.text.specs.Bytes.{Text, Words, part, concatMap}
 use Rattle.text.specs.Lines.{Line}
-use Rattle.text.specs.Reading.{left, follow, FoundWord, Passed, Opens}
+use Rattle.text.specs.Reading.{left, ahead, follow, FoundWord, Passed, Opens}
 use Rattle.profile.specs.Profile.{Profile}
 use Rattle.rules.specs.declared.Progress.{Progress}
 use Rattle.rules.specs.Words.{hasDollar}
 use Rattle.rules.specs.Headings.{Heading, upFrom}
 use Rattle.rules.specs.Sections.{Rule, applies, sections}
-use Rattle.rules.specs.Faults.{Groups, rightWords}
+use Rattle.rules.specs.Faults.{Groups}
 use Rattle.rules.specs.declared.Present.{Present}
-use Rattle.rules.specs.Checking.{checkFrom, Onward}
+use Rattle.rules.specs.Checking.{presentOf, checkFrom, Onward}
 use Rattle.firing.specs.declared.Cursors.{Cursors}
 use Rattle.resolver.specs.declared.Walk.{Walk}
 use Rattle.resolver.specs.declared.RuleRun.{RuleRun}
 use Rattle.resolver.specs.declared.HeadingAt.{HeadingAt}
 use Rattle.resolver.specs.declared.FirstWord.{FirstWord}
 use Rattle.answers.specs.Matching.{members}
-use Rattle.answers.specs.Firings.{Firing, setFires, headFires, firings, fileFirings}
-use Rattle.firing.specs.Writing.{Low, FiredRule, startingAt, runBuf, runCur}
+use Rattle.answers.specs.Firings.{Firing, ruleFires, setFires, headFires, firings, fileFirings}
+use Rattle.firing.specs.Writing.{Low, ShortWords, FiredRule, startingAt, runBuf, runCur}
 use Rattle.matching.specs.Groups.{groupsAt, Rowed}
-use Rattle.matching.specs.Left.{leftMatches}
+use Rattle.matching.specs.declared.LeftWord.{LeftWord}
 
 -- the rules from a line on, up to the next heading; and what fires from a line on
 unfoldable pub rulesFrom : List Line → List Rule
@@ -78,17 +78,42 @@ pub record FiredLine (p : Profile) (cs : List ℕ) (s : Text) (from n : ℕ) (d 
   pub fires : FiredRule p d d′ q (r .cursors) k cs (drop 1 (left s from))
   pub passed : Passed s from n (r .at) (r .line)
 
--- a rule's line from `from` on, passed over
-pub record PassedRule (s : Text) (from n : ℕ) (q : Cursors) (r : RuleRun) : Type 0 where
-  pub told : r .fired ≡ false
-  pub cursors : r .cursors ≡ q
-  pub passed : Passed s from n (r .at) (r .line)
+-- what the rules from a line on fire at the layout k: what one rule does, with the words ws, and where every matching rule fires what the lines ls do
+abbrev pub FiresThen : Profile → Groups → Heading → ℕ → List Line → ℕ → Words → List Line → Type 0
+FiresThen p gs h k ls₀ n ws ls =
+    (every : Bool) → setFires every (members gs) p h k (rulesFrom ls₀) ≡ ruleFires p n k (h .components) ws ++ cond every (setFires every (members gs) p h k (rulesFrom ls)) []
 
--- a line that is no heading, run at the layout k: it fires if its left words match
-pub record RanLine (look : Text → Words) (p : Profile) (h : Heading) (s : Text) (from n : ℕ) (d d′ : Text) (q : Cursors) (k : ℕ) (r : RuleRun) : Type 0 where
-  pub hit : r .fired ≡ true → (leftMatches look p k (h .columns) (left s from) ≡ true) × FiredRule p d d′ q (r .cursors) k (h .components) (rightWords h (left s from))
-  pub miss : r .fired ≡ false → (leftMatches look p k (h .columns) (left s from) ≡ false) × (d′ ≡ d) × (r .cursors ≡ q)
-  pub passed : Passed s from n (r .at) (r .line)
+-- A rule's left words match: its line goes on behind them with an `=` and the right words, and lines after it are not refused. The names are those of the groups so far.
+pub record MatchedRule (p : Profile) (gs : Groups) (h : Heading) (k : ℕ) (ns : List Text) (s : Text) (at n : ℕ) (r : LeftWord) : Type 0 where
+  pub number : ℕ
+  pub fires : FiresThen p gs h k (follow s at n) number (drop 1 (left s (r .at))) (ahead s (r .at) (r .line))
+  pub count : length (left s (r .at)) ≡ 1 + length (h .components)
+  pub short : ShortWords (left s (r .at))
+  pub clean : checkFrom ns (presentOf h) (ahead s (r .at) (r .line)) ≡ []
+  pub inside : at < length s
+  pub low : at ≤ r .at
+  pub high : r .at ≤ length s
+  pub few : r .line ≤ r .at + 1
+
+-- The next rule from the line at `at` on, which has the number n, whose left words match at the layout k; or none does before the next heading.
+pub record NextRule (p : Profile) (gs : Groups) (h : Heading) (k : ℕ) (ns : List Text) (s : Text) (at n : ℕ) (r : LeftWord) : Type 0 where
+  pub none : r .matched ≡ false → (every : Bool) → setFires every (members gs) p h k (rulesFrom (follow s at n)) ≡ []
+  pub rule : r .matched ≡ true → MatchedRule p gs h k ns s at n r
+
+-- that rule, fired
+pub record RanRule (p : Profile) (gs : Groups) (h : Heading) (k : ℕ) (ns : List Text) (s : Text) (at n : ℕ) (d d′ : Text) (q : Cursors) (r : RuleRun) : Type 0 where
+  pub number : ℕ
+  pub words : Words
+  pub fires : FiresThen p gs h k (follow s at n) number words (follow s (r .at) (r .line))
+  pub fired : FiredRule p d d′ q (r .cursors) k (h .components) words
+  pub clean : checkFrom ns (presentOf h) (follow s (r .at) (r .line)) ≡ []
+  pub onward : at < r .at
+  pub high : r .at ≤ length s
+  pub few : r .line ≤ r .at + 1
+
+pub record RanNext (p : Profile) (gs : Groups) (h : Heading) (k : ℕ) (ns : List Text) (s : Text) (at n : ℕ) (d d′ : Text) (q : Cursors) (r : RuleRun) : Type 0 where
+  pub none : r .fired ≡ false → ((every : Bool) → setFires every (members gs) p h k (rulesFrom (follow s at n)) ≡ []) × (d′ ≡ d) × (r .cursors ≡ q)
+  pub rule : r .fired ≡ true → RanRule p gs h k ns s at n d d′ q r
 
 -- The next heading from the line at `at` on, which has the number n: what fires and what is refused before it, for whatever groups and heading so far, is
 -- nothing; or there is none.

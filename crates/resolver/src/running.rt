@@ -1,7 +1,7 @@
 // The sets of a file run for a profile.
 ghost use mathlib.Core.Path.{_≡_};
 ghost use mathlib.Core.List.{[]};
-ghost use mathlib.Core.Bool.{true};
+ghost use mathlib.Core.Bool.{true, false};
 ghost use Prim.Native.Nat.{_+_, _-_, _≤_, _<_};
 ghost use lib.ListN.{length, getD};
 ghost use Rattle.text.specs.Limits.{mostOptions};
@@ -16,15 +16,15 @@ ghost use Rattle.rules.specs.Checking.{presentOf, checkFrom};
 ghost use Rattle.values.specs.Filling.{Short};
 ghost use Rattle.matching.specs.Groups.{groupsAt, Rowed};
 ghost use Rattle.answers.specs.Layouts.{perLayout};
-ghost use Rattle.answers.specs.Matching.{members};
 ghost use Rattle.firing.specs.Writing.{Low, ShortWords};
 ghost use Rattle.matching.specs.Held.{headingBy, SetSized};
-ghost use Rattle.resolver.specs.Running.{FiredLine, PassedRule, RanLine, FiredSet, FiredRange, FiredHeading};
+ghost use Rattle.resolver.specs.Running.{FiredLine, NextRule, RanNext, FiredSet, FiredRange, FiredHeading};
 ghost use Rattle.matching.specs.Ranges.{FromOne};
 use super::RuleRun;
 use firing::Cursors;
 use firing::rule::fire_rule;
-use matching::columns::left_words;
+use matching::LeftWord;
+use matching::columns::left_word;
 use matching::ranges::has_options;
 use matching::ranges::layout_range;
 use profile::fields::LAYOUTS;
@@ -91,22 +91,108 @@ fn fire_line(
     }
 }
 
-// A rule whose left words don't match: the rest of its line is passed over.
-fn pass_rule(s: &[u8], t: &[u8; 512], fence: usize, from: usize, line: usize, q: Cursors) -> RuleRun
-    requires { ⌜ Within (now s) (now t) fence from line ⌝ }
-    ensures { λ r. ⌜ PassedRule (now (s .entry)) from line q r ⌝ }
+// No word of a line is read yet.
+fn unread(at: usize, line: usize) -> LeftWord
+    ensures { λ r. ⌜ r ≡ record { matched = false; at = at; line = line } ⌝ }
 {
-    let e = pass_line(s, t, fence, from, line);
+    LeftWord {
+        matched: false,
+        at,
+        line,
+    }
+}
+
+// The first rule of a set from a line on whose left words match at the layout k: where they end. `layout` and `variant` are those of the layout k.
+fn find_rule(
+    s: &[u8],
+    t: &[u8; 512],
+    fence: usize,
+    names: &[usize; 192],
+    rows: &[bool; 640],
+    groups: usize,
+    h: SetHeading,
+    model: &[u8],
+    layouts: &[u8],
+    variants: &[u8],
+    layout: &[u8],
+    variant: &[u8],
+    options: &[u8],
+    table: &[usize; 192],
+    listed: usize,
+    k: usize,
+    start: usize,
+    number: usize,
+) -> LeftWord
+    requires { ⌜ Table (now t) × Fenced (now s) fence × Named (now s) (now names) groups
+        × Rowed (profileOf (textsOf (now model) (now layouts) (now variants) (now options))) (now s) (now names) (now rows) groups
+        × SetSized h × Listed (now options) (now table) listed × (length (optionsOf (now options)) ≤ mostOptions)
+        × (k ≤ 4) × (anyOf perLayout (headingBy h .columns) ≡ true → 1 ≤ k)
+        × (now layout ≡ getD (fields (now layouts)) (k - 1) []) × (now variant ≡ getD (fields (now variants)) (k - 1) [])
+        × (start ≤ length (now s)) × (number ≤ start + 1)
+        × (checkFrom (namesAt (now s) (now names) groups) (presentOf (headingBy h)) (follow (now s) start number) ≡ []) ⌝ }
+    ensures { λ r. ⌜ NextRule (profileOf (textsOf (now (model .entry)) (now (layouts .entry)) (now (variants .entry)) (now (options .entry))))
+        (groupsAt (now (s .entry)) (now (names .entry)) groups) (headingBy h) k (namesAt (now (s .entry)) (now (names .entry)) groups) (now (s .entry)) start number r ⌝ }
+{
+    let columns = h.columns;
+    let mut at = start;
+    let mut line = number;
+    let mut x = unread(start, number);
+    'rules: while at < s.len() {
+        let o = open_line(s, t, at, line);
+        if o.heading {
+            break 'rules;
+        }
+        x.at = o.at;
+        x.line = o.line;
+        let mut c: usize = 0;
+        while c < h.left {
+            x = left_word(
+                s,
+                t,
+                fence,
+                x.at,
+                x.line,
+                columns[c],
+                k,
+                layout,
+                variant,
+                names,
+                rows,
+                groups,
+                model,
+                layouts,
+                variants,
+                options,
+                table,
+                listed,
+            );
+            if !x.matched {
+                let e = pass_line(s, t, fence, x.at, x.line);
+                at = e.at;
+                line = e.line;
+                continue 'rules;
+            }
+            c += 1;
+        }
+        break 'rules;
+    }
+    x
+}
+
+// No rule is left to fire.
+fn none_left(x: LeftWord, q: Cursors) -> RuleRun
+    ensures { λ r. ⌜ r ≡ record { fired = false; at = x .at; line = x .line; cursors = q } ⌝ }
+{
     RuleRun {
         fired: false,
-        at: e.at,
-        line: e.line,
+        at: x.at,
+        line: x.line,
         cursors: q,
     }
 }
 
-// A line of a set from its first word on, at the layout k: it fires if its left words match. `layout` and `variant` are those of the layout k.
-fn run_line(
+// The first rule of a set from a line on whose left words match, fired at the layout k.
+fn run_rule(
     s: &[u8],
     t: &[u8; 512],
     fence: usize,
@@ -114,8 +200,6 @@ fn run_line(
     names: &[usize; 192],
     rows: &[bool; 640],
     groups: usize,
-    from: usize,
-    line: usize,
     h: SetHeading,
     model: &[u8],
     layouts: &[u8],
@@ -128,45 +212,48 @@ fn run_line(
     listed: usize,
     n: usize,
     k: usize,
+    start: usize,
+    number: usize,
     scratch: &mut [u8],
     buf: &mut [u8],
     q: Cursors,
 ) -> RuleRun
-    requires { ⌜ Within (now s) (now t) fence from line × (length (now places) ≡ 20) × Named (now s) (now names) groups
+    requires { ⌜ Table (now t) × Fenced (now s) fence × (length (now places) ≡ 20) × Named (now s) (now names) groups
         × Rowed (profileOf (textsOf (now model) (now layouts) (now variants) (now options))) (now s) (now names) (now rows) groups
         × SetSized h × Listed (now options) (now table) listed × (length (optionsOf (now options)) ≤ mostOptions)
         × (n ≡ length (fields (now layouts))) × (1 ≤ n) × (n < 10) × (k ≤ 4) × (anyOf perLayout (headingBy h .columns) ≡ true → 1 ≤ k)
         × (now layout ≡ getD (fields (now layouts)) (k - 1) []) × (now variant ≡ getD (fields (now variants)) (k - 1) [])
-        × ((length (left (now s) from) ≡ 0 → ⊥) → length (left (now s) from) ≡ h .left + 1 + h .right) × ShortWords (left (now s) from)
         × Short (now model) (now layouts) (now variants)
         × (8192 ≤ length (now scratch)) × (length (now scratch) ≤ farthest) × (length (now buf) ≤ farthest) × Low (q .at)
+        × (start ≤ length (now s)) × (number ≤ start + 1)
+        × (checkFrom (namesAt (now s) (now names) groups) (presentOf (headingBy h)) (follow (now s) start number) ≡ [])
         × Bounds (now layouts) (now variants) (now bounds) ⌝ }
-    ensures { λ r. ⌜ RanLine (members (groupsAt (now (s .entry)) (now (names .entry)) groups))
-        (profileOf (textsOf (now (model .entry)) (now (layouts .entry)) (now (variants .entry)) (now (options .entry)))) (headingBy h)
-        (now (s .entry)) from line (now (buf .entry)) (now (buf .exit)) q k r ⌝ }
+    ensures { λ r. ⌜ RanNext (profileOf (textsOf (now (model .entry)) (now (layouts .entry)) (now (variants .entry)) (now (options .entry))))
+        (groupsAt (now (s .entry)) (now (names .entry)) groups) (headingBy h) k (namesAt (now (s .entry)) (now (names .entry)) groups) (now (s .entry)) start number
+        (now (buf .entry)) (now (buf .exit)) q r ⌝ }
 {
-    let x = left_words(
+    let x = find_rule(
         s,
         t,
         fence,
-        from,
-        line,
-        h,
-        k,
-        layout,
-        variant,
         names,
         rows,
         groups,
+        h,
         model,
         layouts,
         variants,
+        layout,
+        variant,
         options,
         table,
         listed,
+        k,
+        start,
+        number,
     );
     if !x.matched {
-        return pass_rule(s, t, fence, x.at, x.line, q);
+        return none_left(x, q);
     }
     fire_line(
         s,
@@ -231,12 +318,8 @@ pub fn run_set(
     let mut m = q;
     let mut at = start;
     let mut line = number;
-    while at < s.len() {
-        let o = open_line(s, t, at, line);
-        if o.heading {
-            return m;
-        }
-        let r = run_line(
+    loop {
+        let r = run_rule(
             s,
             t,
             fence,
@@ -244,8 +327,6 @@ pub fn run_set(
             names,
             rows,
             groups,
-            o.at,
-            o.line,
             h,
             model,
             layouts,
@@ -258,18 +339,19 @@ pub fn run_set(
             listed,
             n,
             k,
+            at,
+            line,
             scratch,
             buf,
             m,
         );
         m = r.cursors;
-        at = r.at;
-        line = r.line;
-        if r.fired && !every {
+        if !r.fired || !every {
             return m;
         }
+        at = r.at;
+        line = r.line;
     }
-    m
 }
 
 // A set run at each of `count` layouts from `first` on, in ascending order.
