@@ -8,9 +8,9 @@ use lib.Dec.{eqb, ltb}
 use lib.ListN.{getD}
 use borrow.Author.Tests.{eqb-true, eqb-false, ltb-true, ltb-false, lt-ltb}
 use Rattle.text.specs.Bytes.{Text, same, anyOf}
-use Rattle.text.proofs.Lists.{no, same-eq}
+use Rattle.text.proofs.Lists.{no, same-eq, same-self}
 use Rattle.lookup.specs.Names.{nameAt, namesAt, rankedAt, numberOf, rankOf, mostNames, before, Named}
-use Rattle.lookup.proofs.Ordering.{before-self, before-through}
+use Rattle.lookup.proofs.Ordering.{before-self, before-through, before-one}
 
 pub below-or : (x y : ℕ) → x ≤ y → (x ≡ y → ⊥) → x < y
 below-or x y l d = by (ltb x y) refl
@@ -236,6 +236,23 @@ module _ (s : Text) (t : List ℕ) (n : ℕ) (v : Named s t n) where
             let c : v .ranks g l .rank ≡ r = alike-here g l e in
             let f : getD t (128 + r) 0 ≡ g = ap (λ (i : ℕ). getD t (128 + i) 0) (sym c) ∙ v .ranks g l .number in
             absurd (omega arith)
+
+    -- the name of rank r is not before w, so the order tells the two apart
+    module _ (k : r < n) (x : Text) (xe : x ≡ nameAt s t (getD t (128 + r) 0)) (b : Bool) (be : b ≡ before w x) where
+      pub rank-behind : b ≡ true → mostNames ≡ numberOf s t n w
+      rank-behind q = find-other k (go (same w (nameAt s t (getD t (128 + r) 0))) refl)
+        where
+          go : (u : Bool) → same w (nameAt s t (getD t (128 + r) 0)) ≡ u → same w (nameAt s t (getD t (128 + r) 0)) ≡ false
+          go false e = e
+          go true e =
+              let z : w ≡ x = same-eq w (nameAt s t (getD t (128 + r) 0)) e ∙ sym xe in
+              absurd (no (sym (before-self w) ∙ (ap (before w) z ∙ (sym be ∙ q))))
+
+      pub rank-this : b ≡ false → getD t (128 + r) 0 ≡ numberOf s t n w
+      rank-this q =
+          let y : before x w ≡ false = ap (λ (u : Text). before u w) (xe ∙ sym (ranked-is s t r)) ∙ h .above r (omega arith) k in
+          let z : w ≡ x = before-one w x (sym be ∙ q) y in
+          find-this k (ap (λ (u : Text). same u (nameAt s t (getD t (128 + r) 0))) (z ∙ xe) ∙ same-self (nameAt s t (getD t (128 + r) 0)))
 
 -- what the loop has seen of a name, by its number
 pub seen : (s : Text) (t : List ℕ) (w x : Text) (i : ℕ) (r b : Bool) → x ≡ nameAt s t (getD t (128 + i) 0) → r ≡ before x w → r ≡ b → before (rankedAt s t i) w ≡ b

@@ -5,7 +5,6 @@ ghost use lib.ListN.{length};
 ghost use Rattle.text.specs.Bytes.{same as sameText, anyOf};
 ghost use Rattle.lookup.specs.Names.{Named, nameAt, namesAt, numberOf, mostNames, rankOf, moved, Added};
 use super::order::precedes;
-use text::compare::same;
 
 // Name g of the first n.
 fn name_of<'a>(s: &'a [u8], table: &[usize; 192], n: usize, g: usize) -> &'a [u8]
@@ -45,10 +44,11 @@ fn number_at(s: &[u8], table: &[usize; 192], n: usize, i: usize, name: &[u8]) ->
         return 64;
     }
     let g = table[128 + i];
-    if same(name, name_of(s, table, n, g)) {
-        return g;
+    // the name at this rank is not before it, so it is the same unless it is behind
+    if precedes(name, name_of(s, table, n, g)) {
+        return 64;
     }
-    64
+    g
 }
 
 // The number of a name among the first n, or 64.

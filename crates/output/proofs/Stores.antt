@@ -3,7 +3,7 @@ use Prim.Native.Nat.{ℕ, _+_, _-_, _≤_, _<_, min}
 use native.Mathlib.Nat.{add-zero}
 use native.Mathlib.Numerals.{add-one}
 use native.Mathlib.Omega.{arith}
-use mathlib.Core.Path.{_≡_, refl, sym, _∙_}
+use mathlib.Core.Path.{_≡_, refl, sym, ap, _∙_}
 use mathlib.Core.List.{[], _∷_, _++_, append-assoc, append-nil}
 use mathlib.Core.Bool.{Bool, true, false}
 use lib.ListN.{length, take, drop, getD, set, length-set, length-append, take-append-drop}
@@ -11,7 +11,7 @@ use lib.Seq.{set-out, set-comm, take-suc-set, take-set-le, take-add, drop-drop, 
 use lib.Dec.{ltb}
 use borrow.Author.Tests.{ltb-true, ltb-false}
 use Rattle.text.specs.Bytes.{Text, part}
-use Rattle.text.proofs.Positions.{part-empty, part-cons, part-snoc, length-part}
+use Rattle.text.proofs.Positions.{part-empty, part-snoc, length-part}
 use Rattle.output.specs.Store.{stored, farthest, past, Wrote}
 
 pub stored-append : (d : Text) (at : ℕ) (x y : Text) → stored d at (x ++ y) ≡ stored (stored d at x) (at + length x) y
@@ -89,17 +89,10 @@ pub copied-more : (d d′ s : Text) (start from i o : ℕ) → from ≤ i → i 
 copied-more d d′ s start from i o h l e g =
     rw (part-snoc s from i h l, stored-append, length-part s from i (omega arith), ← e, ← g) (stored-one d′ o (getD s i 0))
 
-pub copied-nothing : (d s : Text) (start from e : ℕ) → e ≤ from → d ≡ stored d start (part s from e)
+pub copied-nothing : (d s : Text) (start from e : ℕ) → e - from ≡ 0 → d ≡ stored d start (part s from e)
 unfolding stored part
-copied-nothing d s start from e h = let z : e - from ≡ 0 = omega arith in rw z
+copied-nothing d s start from e h = rw h
 
--- the first byte by itself
-pub copied-first : (d d′ s : Text) (start from i e : ℕ) → from < e → e ≤ length s → i ≡ e → d′ ≡ stored (set d start (getD s from 0)) (start + 1) (part s (from + 1) i) →
-    d′ ≡ stored d start (part s from e)
-unfolding stored
-copied-first d d′ s start from i e h l q g = g ∙ rw (q, part-cons s from e h l)
-
--- a part of which only what has room is copied
 pub cut-part : (s : Text) (a e n : ℕ) → a ≤ e → a + n ≤ e → e ≤ length s → part s a e ≡ part s a (a + n) ++ part s (a + n) e
 unfolding part
 cut-part s a e n h k l =
@@ -107,6 +100,51 @@ cut-part s a e n h k l =
     let y : a + n - a ≡ n = omega arith in
     rw (x, y, take-add, drop-drop)
 
+-- places within the buffer
+pub copy-inside : (from e start l k : ℕ) → from ≤ e → e - from ≤ l - start → k < e - from → start + k < l
+copy-inside from e start l k a b c = omega arith
+
+pub set-inside : (d : Text) (i b j : ℕ) → j < length d → j < length (set d i b)
+set-inside d i b j h = rw (length-set d i b) h
+
+pub copy-on : (from e start l i o : ℕ) → from ≤ e → e - from ≤ l - start → from + 3 ≤ i → i < e → o ≡ start + 3 + (i - (from + 3)) →
+    (o < l) × (o + 1 ≡ start + 3 + (i + 1 - (from + 3))) × (e - (i + 1) < e - i)
+copy-on from e start l i o a b c d h = (omega arith, omega arith, omega arith)
+
+-- the first bytes by themselves
+module _ (d s : Text) (start from : ℕ) where
+  copied-one : from < length s → set d start (getD s from 0) ≡ stored d start (part s from (from + 1))
+  copied-one l = copied-more d d s start from from start (omega arith) l (omega arith) (copied-none d s start from)
+
+  copied-two : from + 1 < length s → set (set d start (getD s from 0)) (start + 1) (getD s (from + 1) 0) ≡ stored d start (part s from (from + 2))
+  copied-two l =
+      let z : from + 1 + 1 ≡ from + 2 = omega arith in
+      rw z at (copied-more d (set d start (getD s from 0)) s start from (from + 1) (start + 1) (omega arith) l (omega arith) (copied-one (omega arith)))
+
+  copied-three : from + 2 < length s →
+      set (set (set d start (getD s from 0)) (start + 1) (getD s (from + 1) 0)) (start + 2) (getD s (from + 2) 0) ≡ stored d start (part s from (from + 3))
+  copied-three l =
+      let z : from + 2 + 1 ≡ from + 3 = omega arith in
+      rw z at (copied-more d (set (set d start (getD s from 0)) (start + 1) (getD s (from + 1) 0)) s start from (from + 2) (start + 2) (omega arith) l (omega arith) (copied-two (omega arith)))
+
+  module _ (e : ℕ) (h : e ≤ length s) where
+    pub end-one : e - from ≡ 1 → set d start (getD s from 0) ≡ stored d start (part s from e)
+    end-one n = let z : e ≡ from + 1 = omega arith in rw z (copied-one (omega arith))
+
+    pub end-two : e - from ≡ 2 → set (set d start (getD s from 0)) (start + 1) (getD s (from + 1) 0) ≡ stored d start (part s from e)
+    end-two n = let z : e ≡ from + 2 = omega arith in rw z (copied-two (omega arith))
+
+    pub end-more : (d′ : Text) (i : ℕ) → from + 3 ≤ e → i ≡ e →
+        d′ ≡ stored (set (set (set d start (getD s from 0)) (start + 1) (getD s (from + 1) 0)) (start + 2) (getD s (from + 2) 0)) (start + 3) (part s (from + 3) i) →
+        d′ ≡ stored d start (part s from e)
+    end-more d′ i l q g =
+        let x = part s from (from + 3) in
+        let y : length x ≡ 3 = length-part s from (from + 3) (omega arith) ∙ omega arith in
+        g ∙ (rw (q, copied-three (omega arith)) refl
+        ∙ (ap (λ (k : ℕ). stored (stored d start x) k (part s (from + 3) e)) (ap (λ (k : ℕ). start + k) (sym y))
+        ∙ (sym (stored-append d start x (part s (from + 3) e)) ∙ ap (stored d start) (sym (cut-part s from e 3 (omega arith) l h)))))
+
+-- a part of which only what has room is copied
 pub wrote-part : (d d′ s : Text) (at a e n r : ℕ) → a ≤ e → e ≤ length s → n ≡ min (e - a) (length d - at) →
     d′ ≡ stored d at (part s a (a + n)) → r ≡ past at (e - a) → Wrote d d′ at (part s a e) r
 wrote-part d d′ s at a e n r h l m g q =

@@ -35,17 +35,26 @@ pub fn taken(room: usize, at: usize, n: usize) -> usize
     if n < room - at { n } else { room - at }
 }
 
-// Copies a part of s. Its first byte is copied by itself: often there is no other, and a loop costs more to set up.
+// Copies a part of s. Its first three bytes are copied by themselves: often there are no more, and a loop costs more to set up.
 pub fn copy(s: &[u8], from: usize, end: usize, out: &mut [u8], start: usize)
     requires { ⌜ (from ≤ end) × (end ≤ length (now s)) × (end - from ≤ length (now out) - start) ⌝ }
     ensures { λ _. ⌜ now (out .exit) ≡ stored (now (out .entry)) start (part (now (s .entry)) from end) ⌝ }
 {
-    if end <= from {
+    let n = end - from;
+    if n == 0 {
         return;
     }
     out[start] = s[from];
-    let mut i = from + 1;
-    let mut o = start + 1;
+    if n == 1 {
+        return;
+    }
+    out[start + 1] = s[from + 1];
+    if n == 2 {
+        return;
+    }
+    out[start + 2] = s[from + 2];
+    let mut i = from + 3;
+    let mut o = start + 3;
     while i < end {
         out[o] = s[i];
         i += 1;
