@@ -3,7 +3,7 @@ use Prim.Native.Nat.{ℕ, _+_, _-_, _≤_, _<_, min}
 use native.Mathlib.Nat.{add-zero}
 use native.Mathlib.Numerals.{add-one}
 use native.Mathlib.Omega.{arith}
-use mathlib.Core.Path.{_≡_, refl, sym, ap, _∙_}
+use mathlib.Core.Path.{_≡_, refl, sym, _∙_}
 use mathlib.Core.List.{[], _∷_, _++_, append-assoc, append-nil}
 use mathlib.Core.Bool.{Bool, true, false}
 use lib.ListN.{length, take, drop, getD, set, length-set, length-append, take-append-drop}
@@ -89,10 +89,6 @@ pub copied-more : (d d′ s : Text) (start from i o : ℕ) → from ≤ i → i 
 copied-more d d′ s start from i o h l e g =
     rw (part-snoc s from i h l, stored-append, length-part s from i (omega arith), ← e, ← g) (stored-one d′ o (getD s i 0))
 
-pub copied-nothing : (d s : Text) (start from e : ℕ) → e - from ≡ 0 → d ≡ stored d start (part s from e)
-unfolding stored part
-copied-nothing d s start from e h = rw h
-
 pub cut-part : (s : Text) (a e n : ℕ) → a ≤ e → a + n ≤ e → e ≤ length s → part s a e ≡ part s a (a + n) ++ part s (a + n) e
 unfolding part
 cut-part s a e n h k l =
@@ -101,17 +97,13 @@ cut-part s a e n h k l =
     rw (x, y, take-add, drop-drop)
 
 -- places within the buffer
-pub copy-inside : (from e start l k : ℕ) → from ≤ e → e - from ≤ l - start → k < e - from → start + k < l
-copy-inside from e start l k a b c = omega arith
+pub copy-inside : (n start l k : ℕ) → n ≤ l - start → k < n → start + k < l
+copy-inside n start l k b c = omega arith
 
 pub set-inside : (d : Text) (i b j : ℕ) → j < length d → j < length (set d i b)
 set-inside d i b j h = rw (length-set d i b) h
 
-pub copy-on : (from e start l i o : ℕ) → from ≤ e → e - from ≤ l - start → from + 3 ≤ i → i < e → o ≡ start + 3 + (i - (from + 3)) →
-    (o < l) × (o + 1 ≡ start + 3 + (i + 1 - (from + 3))) × (e - (i + 1) < e - i)
-copy-on from e start l i o a b c d h = (omega arith, omega arith, omega arith)
-
--- the first bytes by themselves
+-- at most three bytes
 module _ (d s : Text) (start from : ℕ) where
   copied-one : from < length s → set d start (getD s from 0) ≡ stored d start (part s from (from + 1))
   copied-one l = copied-more d d s start from from start (omega arith) l (omega arith) (copied-none d s start from)
@@ -127,22 +119,21 @@ module _ (d s : Text) (start from : ℕ) where
       let z : from + 2 + 1 ≡ from + 3 = omega arith in
       rw z at (copied-more d (set (set d start (getD s from 0)) (start + 1) (getD s (from + 1) 0)) s start from (from + 2) (start + 2) (omega arith) l (omega arith) (copied-two (omega arith)))
 
-  module _ (e : ℕ) (h : e ≤ length s) where
-    pub end-one : e - from ≡ 1 → set d start (getD s from 0) ≡ stored d start (part s from e)
-    end-one n = let z : e ≡ from + 1 = omega arith in rw z (copied-one (omega arith))
+  module _ (n : ℕ) (h : from + n ≤ length s) where
+    pub few-none : n ≡ 0 → d ≡ stored d start (part s from (from + n))
+    few-none e = let z : from + n ≡ from = omega arith in rw z (copied-none d s start from)
 
-    pub end-two : e - from ≡ 2 → set (set d start (getD s from 0)) (start + 1) (getD s (from + 1) 0) ≡ stored d start (part s from e)
-    end-two n = let z : e ≡ from + 2 = omega arith in rw z (copied-two (omega arith))
+    pub few-one : n ≡ 1 → set d start (getD s from 0) ≡ stored d start (part s from (from + n))
+    few-one e = rw e (copied-one (omega arith))
 
-    pub end-more : (d′ : Text) (i : ℕ) → from + 3 ≤ e → i ≡ e →
-        d′ ≡ stored (set (set (set d start (getD s from 0)) (start + 1) (getD s (from + 1) 0)) (start + 2) (getD s (from + 2) 0)) (start + 3) (part s (from + 3) i) →
-        d′ ≡ stored d start (part s from e)
-    end-more d′ i l q g =
-        let x = part s from (from + 3) in
-        let y : length x ≡ 3 = length-part s from (from + 3) (omega arith) ∙ omega arith in
-        g ∙ (rw (q, copied-three (omega arith)) refl
-        ∙ (ap (λ (k : ℕ). stored (stored d start x) k (part s (from + 3) e)) (ap (λ (k : ℕ). start + k) (sym y))
-        ∙ (sym (stored-append d start x (part s (from + 3) e)) ∙ ap (stored d start) (sym (cut-part s from e 3 (omega arith) l h)))))
+    pub few-two : n ≡ 2 → set (set d start (getD s from 0)) (start + 1) (getD s (from + 1) 0) ≡ stored d start (part s from (from + n))
+    few-two e = rw e (copied-two (omega arith))
+
+    pub few-three : n ≡ 3 → set (set (set d start (getD s from 0)) (start + 1) (getD s (from + 1) 0)) (start + 2) (getD s (from + 2) 0) ≡ stored d start (part s from (from + n))
+    few-three e = rw e (copied-three (omega arith))
+
+pub few-whole : (d d′ s : Text) (start from e : ℕ) → from ≤ e → d′ ≡ stored d start (part s from (from + (e - from))) → d′ ≡ stored d start (part s from e)
+few-whole d d′ s start from e h g = let z : from + (e - from) ≡ e = omega arith in rw z at g
 
 -- a part of which only what has room is copied
 pub wrote-part : (d d′ s : Text) (at a e n r : ℕ) → a ≤ e → e ≤ length s → n ≡ min (e - a) (length d - at) →

@@ -1,6 +1,6 @@
 // Texts written into a lent buffer: a byte behind the buffer's end is counted and not stored, so that a text is measured where it has no room.
 ghost use mathlib.Core.Path.{_≡_};
-ghost use Prim.Native.Nat.{_-_, _^_, _≤_, _<_, min};
+ghost use Prim.Native.Nat.{_+_, _-_, _^_, _≤_, _<_, min};
 ghost use lib.ListN.{length};
 ghost use Rattle.text.specs.Bytes.{part};
 ghost use Rattle.output.specs.Store.{stored, past as pastOf, Wrote};
@@ -35,12 +35,11 @@ pub fn taken(room: usize, at: usize, n: usize) -> usize
     if n < room - at { n } else { room - at }
 }
 
-// Copies a part of s. Its first three bytes are copied by themselves: often there are no more, and a loop costs more to set up.
-pub fn copy(s: &[u8], from: usize, end: usize, out: &mut [u8], start: usize)
-    requires { ⌜ (from ≤ end) × (end ≤ length (now s)) × (end - from ≤ length (now out) - start) ⌝ }
-    ensures { λ _. ⌜ now (out .exit) ≡ stored (now (out .entry)) start (part (now (s .entry)) from end) ⌝ }
+// Copies at most three bytes of s: a loop would cost more to set up.
+fn copy_few(s: &[u8], from: usize, n: usize, out: &mut [u8], start: usize)
+    requires { ⌜ (n ≤ 3) × (from + n ≤ length (now s)) × (n ≤ length (now out) - start) ⌝ }
+    ensures { λ _. ⌜ now (out .exit) ≡ stored (now (out .entry)) start (part (now (s .entry)) from (from + n)) ⌝ }
 {
-    let n = end - from;
     if n == 0 {
         return;
     }
@@ -53,8 +52,19 @@ pub fn copy(s: &[u8], from: usize, end: usize, out: &mut [u8], start: usize)
         return;
     }
     out[start + 2] = s[from + 2];
-    let mut i = from + 3;
-    let mut o = start + 3;
+}
+
+// Copies a part of s.
+pub fn copy(s: &[u8], from: usize, end: usize, out: &mut [u8], start: usize)
+    requires { ⌜ (from ≤ end) × (end ≤ length (now s)) × (end - from ≤ length (now out) - start) ⌝ }
+    ensures { λ _. ⌜ now (out .exit) ≡ stored (now (out .entry)) start (part (now (s .entry)) from end) ⌝ }
+{
+    if end - from < 4 {
+        copy_few(s, from, end - from, out, start);
+        return;
+    }
+    let mut i = from;
+    let mut o = start;
     while i < end {
         out[o] = s[i];
         i += 1;
