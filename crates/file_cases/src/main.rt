@@ -41,7 +41,7 @@ fn case_end(s: &[u8]) -> usize
 
 // Checks one file and prints `refused 6 at 2`, or `accepted 3 groups`.
 fn report(file: &[u8]) {
-    let mut names: [usize; 192] = [0; 192];
+    let mut names: [usize; 256] = [0; 256];
     let mut heads: [usize; 256] = [0; 256];
     let c = check_file(file, &mut names, &mut heads);
     let r = c.refusal;

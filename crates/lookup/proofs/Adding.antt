@@ -12,7 +12,7 @@ use borrow.Author.Tests.{eqb-true, eqb-false, ltb-true, ltb-false, lt-ltb, le-lt
 use Rattle.text.specs.Bytes.{Text, same, part, anyOf}
 use Rattle.text.proofs.Lists.{no, same-self}
 use Rattle.text.proofs.Pairs.{withPair, pair-length, pair-old, pair-new}
-use Rattle.lookup.specs.Names.{nameAt, namesAt, rankedAt, rankOf, numberOf, mostNames, before, Ranked, Named, moved, withName, isNew, Added}
+use Rattle.lookup.specs.Names.{nameAt, namesAt, rankedAt, rankOf, numberOf, mostNames, keyOf, before, Ranked, Named, moved, withName, isNew, Added}
 use Rattle.lookup.proofs.Ordering.{before-one}
 use Rattle.lookup.proofs.Ranking.{below-or, ranked-is, Ranks, ranks-by, number-named}
 
@@ -63,28 +63,35 @@ moved-further t r (suc m) k z a b = rw (moved-suc t r m) (by (eqb k (r + m + 1))
         f (simp length-set (omega arith)) a (omega arith) ∙
         getD-set-other t (129 + (r + m)) (127 + k) (getD t (128 + (r + m)) 0) 0 (λ (y : 127 + k ≡ 129 + (r + m)). omega arith)
 
--- the numbers from the rank r on stand one further
-pub record Shifted (t t′ : List ℕ) (r n : ℕ) : Type 0 where
-  pub size : length t′ ≡ 192
+-- the numbers from the rank r on stand one further, and the key k is the n-th
+pub record Shifted (t t′ : List ℕ) (r n k : ℕ) : Type 0 where
+  pub size : length t′ ≡ 256
   pub old : (j : ℕ) → j < 128 + r → getD t′ j 0 ≡ getD t j 0
-  pub further : (k : ℕ) → r < k → k ≤ n → getD t′ (128 + k) 0 ≡ getD t (127 + k) 0
+  pub further : (j : ℕ) → r < j → j ≤ n → getD t′ (128 + j) 0 ≡ getD t (127 + j) 0
+  pub keys : (j : ℕ) → j < n → getD t′ (192 + j) 0 ≡ getD t (192 + j) 0
+  pub key : getD t′ (192 + n) 0 ≡ k
 
-shifted : (t : List ℕ) (r n : ℕ) → r ≤ n → n < mostNames → length t ≡ 192 → Shifted t (moved t r (n - r)) r n
-shifted t r n l m z =
+shifted : (t : List ℕ) (r n k : ℕ) → r ≤ n → n < mostNames → length t ≡ 256 → Shifted t (set (moved t r (n - r)) (192 + n) k) r n k
+shifted t r n k l m z =
     record {
-      size = moved-length t r (n - r) ∙ z;
-      old = λ j a. moved-old t r (n - r) j (omega arith);
-      further = λ k a b. moved-further t r (n - r) k (omega arith) a (omega arith);
+      size = simp length-set (moved-length t r (n - r) ∙ z);
+      old = λ j a. other j (λ (y : j ≡ 192 + n). omega arith) ∙ moved-old t r (n - r) j (omega arith);
+      further = λ j a b. other (128 + j) (λ (y : 128 + j ≡ 192 + n). omega arith) ∙ moved-further t r (n - r) j (omega arith) a (omega arith);
+      keys = λ j a. other (192 + j) (λ (y : 192 + j ≡ 192 + n). omega arith) ∙ moved-far t r (n - r) (192 + j) (omega arith);
+      key = getD-set-same (moved t r (n - r)) (192 + n) k 0 (omega (arith, moved-length t r (n - r)));
     }
+  where
+    other : (j : ℕ) → (j ≡ 192 + n → ⊥) → getD (set (moved t r (n - r)) (192 + n) k) j 0 ≡ getD (moved t r (n - r)) j 0
+    other j d = getD-set-other (moved t r (n - r)) (192 + n) j k 0 d
 
 -- the loop of `make_room`: the numbers behind the rank k stand one further
 pub record Moving (t t′ : List ℕ) (r n k : ℕ) : Type 0 where
   pub low : r ≤ k
   pub few : k ≤ n
-  pub size : length t′ ≡ 192
+  pub size : length t′ ≡ 256
   pub rest : moved t′ r (k - r) ≡ moved t r (n - r)
 
-pub moving-start : (t : List ℕ) (r n : ℕ) → r ≤ n → length t ≡ 192 → Moving t t r n n
+pub moving-start : (t : List ℕ) (r n : ℕ) → r ≤ n → length t ≡ 256 → Moving t t r n n
 moving-start t r n l z = record { low = l; few = omega arith; size = z; rest = refl }
 
 module _ (t t′ : List ℕ) (r n k : ℕ) (v : Moving t t′ r n k) where
@@ -130,12 +137,13 @@ pub record NewName (s : Text) (t t′ : List ℕ) (n a e : ℕ) : Type 0 where
   pub old : (j : ℕ) → j < n → (getD t′ (2 * j) 0 ≡ getD t (2 * j) 0) × (getD t′ (2 * j + 1) 0 ≡ getD t (2 * j + 1) 0)
   pub new : (getD t′ (2 * n) 0 ≡ a) × (getD t′ (2 * n + 1) 0 ≡ e)
 
-module _ (s : Text) (t t₁ : List ℕ) (n a e r : ℕ) (v : Named s t n) (l : n < mostNames) (h : Ranks s t n (part s a e) r) (m : Shifted t t₁ r n) where
+module _ (s : Text) (t t₁ : List ℕ) (n a e r : ℕ) (v : Named s t n) (l : n < mostNames) (h : Ranks s t n (part s a e) r)
+    (m : Shifted t t₁ r n (keyOf (part s a e))) where
   -- the table at the end
   abbrev t₂ : List ℕ
   t₂ = set t₁ (128 + r) n
 
-  size₂ : length t₂ ≡ 192
+  size₂ : length t₂ ≡ 256
   size₂ = simp length-set (m .size)
 
   pair₁ : (j : ℕ) → j < 128 → getD t₂ j 0 ≡ getD t j 0
@@ -170,6 +178,18 @@ module _ (s : Text) (t t₁ : List ℕ) (n a e r : ℕ) (v : Named s t n) (l : n
       pair-far t₂ n a e (128 + (i + 1)) (omega arith)
       ∙ (getD-set-other t₁ (128 + r) (128 + (i + 1)) n 0 (λ (y : 128 + (i + 1) ≡ 128 + r). omega arith)
       ∙ (m .further (i + 1) (omega arith) (omega arith) ∙ ap (λ (j : ℕ). getD t j 0) z))
+
+  keys₂ : (j : ℕ) → j < n + 1 → getD (withPair t₂ n a e) (192 + j) 0 ≡ keyOf (nameAt s (withPair t₂ n a e) j)
+  keys₂ j k = apart ∙ by (ltb j n) refl
+    where
+      apart : getD (withPair t₂ n a e) (192 + j) 0 ≡ getD t₁ (192 + j) 0
+      apart =
+          pair-far t₂ n a e (192 + j) (omega arith)
+          ∙ getD-set-other t₁ (128 + r) (192 + j) n 0 (λ (z : 192 + j ≡ 128 + r). omega (arith, h .few))
+
+      by : (u : Bool) → ltb j n ≡ u → getD t₁ (192 + j) 0 ≡ keyOf (nameAt s (withPair t₂ n a e) j)
+      by true q = let l = ltb-true j n q in m .keys j l ∙ (v .keys j l ∙ ap keyOf (sym (old-name j l)))
+      by false q = let c : j ≡ n = omega (arith, ltb-false j n q) in rw c (m .key ∙ ap keyOf (sym new-name))
 
   -- the names at these ranks
   ranked-below : (i : ℕ) → i < r → rankedAt s (withPair t₂ n a e) i ≡ rankedAt s t i
@@ -264,13 +284,14 @@ module _ (s : Text) (t t₁ : List ℕ) (n a e r : ℕ) (v : Named s t n) (l : n
                 within = within₂ x y;
                 numbers = numbers₂;
                 ranks = ranks₂;
+                keys = keys₂;
                 rising = rising₂;
               };
           old = old-pairs;
           new = new-pair;
         }
 
-pub named-none : (s : Text) (t : List ℕ) → length t ≡ 192 → Named s t 0
+pub named-none : (s : Text) (t : List ℕ) → length t ≡ 256 → Named s t 0
 named-none s t z =
     record {
       size = z;
@@ -278,6 +299,7 @@ named-none s t z =
       within = λ j l. absurd (omega arith);
       numbers = λ i l. absurd (omega arith);
       ranks = λ g l. absurd (omega arith);
+      keys = λ j l. absurd (omega arith);
       rising = λ i j k l. absurd (omega arith);
     }
 
@@ -326,9 +348,9 @@ module _ (s : Text) (t : List ℕ) (n a e : ℕ) where
   adds-none h = record { table = rw h; count = rw h }
 
   pub adds-new : isNew s t n (part s a e) ≡ true → (r : ℕ) → r ≡ rankOf s t n (part s a e) → (t₁ : List ℕ) → t₁ ≡ moved t r (n - r) →
-      Added s t (set (set (set t₁ (128 + r) n) (2 * n) a) (2 * n + 1) e) n a e (n + 1)
+      (k : ℕ) → k ≡ keyOf (part s a e) → Added s t (set (set (set (set t₁ (192 + n) k) (128 + r) n) (2 * n) a) (2 * n + 1) e) n a e (n + 1)
   unfolding withName
-  adds-new h r z t₁ y = record { table = rw (h, ← z, y); count = rw h }
+  adds-new h r z t₁ y k x = record { table = rw (h, ← z, y, x); count = rw h }
 
   module _ (t′ : List ℕ) (r : ℕ) (v : Added s t t′ n a e r) where
     pub added-none : isNew s t n (part s a e) ≡ false → (t′ ≡ t) × (r ≡ n)
@@ -342,5 +364,6 @@ module _ (s : Text) (t : List ℕ) (n a e : ℕ) where
     added-new u x y d l =
         let k = rankOf s t n (part s a e) in
         let h = ranks-by s t n u (part s a e) k refl in
-        let z : t′ ≡ set (set (set (moved t k (n - k)) (128 + k) n) (2 * n) a) (2 * n + 1) e = v .table ∙ rw (is-new s t n (part s a e) d l) in
-        rw z (new-name-in s t (moved t k (n - k)) n a e k u l h (shifted t k n (h .few) l (u .size)) d x y)
+        let i = keyOf (part s a e) in
+        let z : t′ ≡ set (set (set (set (moved t k (n - k)) (192 + n) i) (128 + k) n) (2 * n) a) (2 * n + 1) e = v .table ∙ rw (is-new s t n (part s a e) d l) in
+        rw z (new-name-in s t (set (moved t k (n - k)) (192 + n) i) n a e k u l h (shifted t k n i (h .few) l (u .size)) d x y)

@@ -10,7 +10,7 @@ use borrow.Author.Tests.{eq-eqb, ne-eqb, eqb-true, eqb-false, lt-ltb, ltb-true, 
 use Rattle.text.specs.Bytes.{Text}
 use Rattle.text.proofs.Lists.{no}
 use Rattle.text.proofs.Comparing.{drop-at}
-use Rattle.lookup.specs.Names.{lower, before}
+use Rattle.lookup.specs.Names.{lower, byThen, shorter, keyOf, before}
 
 lower-self : (a : Text) → lower a a ≡ false
 unfolding lower
@@ -61,61 +61,88 @@ lower-one (x ∷ a) (y ∷ b) h k = by (eqb x y) refl h (lower-one a b)
         let m : x ≤ y = ltb-false y x (rw (ne-eqb y x (λ w. d (sym w))) at k) in
         absurd (d (omega arith))
 
-before-alike : (a b : Text) → length a ≡ length b → before a b ≡ lower a b
-unfolding before
-before-alike a b e = rw (eq-eqb (length a) (length b) e)
+-- an order by a number f and then by q, where q is strict and of two that differ one stands before the other
+module _ (f : Text → ℕ) (q : Text → Text → Bool) where
+  then-alike : (a b : Text) → f a ≡ f b → byThen f q a b ≡ q a b
+  unfolding byThen
+  then-alike a b e = rw (eq-eqb (f a) (f b) e)
 
-before-other : (a b : Text) → (length a ≡ length b → ⊥) → before a b ≡ ltb (length a) (length b)
-unfolding before
-before-other a b d = rw (ne-eqb (length a) (length b) d)
+  then-other : (a b : Text) → (f a ≡ f b → ⊥) → byThen f q a b ≡ ltb (f a) (f b)
+  unfolding byThen
+  then-other a b d = rw (ne-eqb (f a) (f b) d)
+
+  then-self : ((a : Text) → q a a ≡ false) → (a : Text) → byThen f q a a ≡ false
+  then-self g a = then-alike a a refl ∙ g a
+
+  then-low : (a b : Text) → byThen f q a b ≡ true → f a ≤ f b
+  then-low a b h = by (eqb (f a) (f b)) refl
+    where
+      by : (u : Bool) → eqb (f a) (f b) ≡ u → f a ≤ f b
+      by true e = let k = eqb-true (f a) (f b) e in omega arith
+      by false e = let k = ltb-true (f a) (f b) (sym (then-other a b (eqb-false (f a) (f b) e)) ∙ h) in omega arith
+
+  then-through : ((a b c : Text) → q a b ≡ true → q b c ≡ true → q a c ≡ true) → (a b c : Text) → byThen f q a b ≡ true → byThen f q b c ≡ true →
+      byThen f q a c ≡ true
+  then-through g a b c h k = by (eqb (f a) (f c)) refl
+    where
+      x : f a ≤ f b
+      x = then-low a b h
+
+      y : f b ≤ f c
+      y = then-low b c k
+
+      by : (u : Bool) → eqb (f a) (f c) ≡ u → byThen f q a c ≡ true
+      by true e =
+          let z : f a ≡ f c = eqb-true (f a) (f c) e in
+          let m : f a ≡ f b = omega (arith, x, y) in
+          let n : f b ≡ f c = omega (arith, x, y) in
+          then-alike a c z ∙ g a b c (sym (then-alike a b m) ∙ h) (sym (then-alike b c n) ∙ k)
+      by false e =
+          let d : f a ≡ f c → ⊥ = eqb-false (f a) (f c) e in
+          then-other a c d ∙ strict (ltb (f a) (f c)) refl
+        where
+          strict : (u : Bool) → ltb (f a) (f c) ≡ u → ltb (f a) (f c) ≡ true
+          strict true w = w
+          strict false w =
+              let l = ltb-false (f a) (f c) w in
+              absurd (eqb-false (f a) (f c) e (omega (arith, x, y)))
+
+  then-one : ((a b : Text) → q a b ≡ false → q b a ≡ false → a ≡ b) → (a b : Text) → byThen f q a b ≡ false → byThen f q b a ≡ false → a ≡ b
+  then-one g a b h k = by (eqb (f a) (f b)) refl
+    where
+      by : (u : Bool) → eqb (f a) (f b) ≡ u → a ≡ b
+      by true e =
+          let z : f a ≡ f b = eqb-true (f a) (f b) e in
+          g a b (sym (then-alike a b z) ∙ h) (sym (then-alike b a (sym z)) ∙ k)
+      by false e =
+          let d : f a ≡ f b → ⊥ = eqb-false (f a) (f b) e in
+          let l = ltb-false (f a) (f b) (sym (then-other a b d) ∙ h) in
+          let m = ltb-false (f b) (f a) (sym (then-other b a (λ w. d (sym w))) ∙ k) in
+          absurd (d (omega arith))
+
+shorter-self : (a : Text) → shorter a a ≡ false
+unfolding shorter
+shorter-self a = then-self length lower lower-self a
+
+shorter-through : (a b c : Text) → shorter a b ≡ true → shorter b c ≡ true → shorter a c ≡ true
+unfolding shorter
+shorter-through a b c h k = then-through length lower lower-through a b c h k
+
+shorter-one : (a b : Text) → shorter a b ≡ false → shorter b a ≡ false → a ≡ b
+unfolding shorter
+shorter-one a b h k = then-one length lower lower-one a b h k
 
 pub before-self : (a : Text) → before a a ≡ false
-before-self a = before-alike a a refl ∙ lower-self a
-
-before-length : (a b : Text) → before a b ≡ true → length a ≤ length b
-before-length a b h = by (eqb (length a) (length b)) refl
-  where
-    by : (u : Bool) → eqb (length a) (length b) ≡ u → length a ≤ length b
-    by true e = let k = eqb-true (length a) (length b) e in omega arith
-    by false e = let k = ltb-true (length a) (length b) (sym (before-other a b (eqb-false (length a) (length b) e)) ∙ h) in omega arith
+unfolding before
+before-self a = then-self keyOf shorter shorter-self a
 
 pub before-through : (a b c : Text) → before a b ≡ true → before b c ≡ true → before a c ≡ true
-before-through a b c h k = by (eqb (length a) (length c)) refl
-  where
-    x : length a ≤ length b
-    x = before-length a b h
-
-    y : length b ≤ length c
-    y = before-length b c k
-
-    by : (u : Bool) → eqb (length a) (length c) ≡ u → before a c ≡ true
-    by true e =
-        let z : length a ≡ length c = eqb-true (length a) (length c) e in
-        let p : length a ≡ length b = omega (arith, x, y) in
-        let q : length b ≡ length c = omega (arith, x, y) in
-        before-alike a c z ∙ lower-through a b c (sym (before-alike a b p) ∙ h) (sym (before-alike b c q) ∙ k)
-    by false e =
-        let d : length a ≡ length c → ⊥ = eqb-false (length a) (length c) e in
-        before-other a c d ∙ strict (ltb (length a) (length c)) refl
-      where
-        strict : (u : Bool) → ltb (length a) (length c) ≡ u → ltb (length a) (length c) ≡ true
-        strict true w = w
-        strict false w =
-            let l = ltb-false (length a) (length c) w in
-            absurd (eqb-false (length a) (length c) e (omega (arith, x, y)))
+unfolding before
+before-through a b c h k = then-through keyOf shorter shorter-through a b c h k
 
 pub before-one : (a b : Text) → before a b ≡ false → before b a ≡ false → a ≡ b
-before-one a b h k = by (eqb (length a) (length b)) refl
-  where
-    by : (u : Bool) → eqb (length a) (length b) ≡ u → a ≡ b
-    by true e =
-        let z : length a ≡ length b = eqb-true (length a) (length b) e in
-        lower-one a b (sym (before-alike a b z) ∙ h) (sym (before-alike b a (sym z)) ∙ k)
-    by false e =
-        let d : length a ≡ length b → ⊥ = eqb-false (length a) (length b) e in
-        let l = ltb-false (length a) (length b) (sym (before-other a b d) ∙ h) in
-        let m = ltb-false (length b) (length a) (sym (before-other b a (λ w. d (sym w))) ∙ k) in
-        absurd (d (omega arith))
+unfolding before
+before-one a b h k = then-one keyOf shorter shorter-one a b h k
 
 -- the loop of `lower_than`: up to i the bytes are alike
 pub record Level (a b : Text) (i : ℕ) : Type 0 where
@@ -152,8 +179,25 @@ module _ (a b : Text) (long : length a ≡ length b) where
       pub level-more : getD a i 0 ≡ getD b i 0 → Level a b (i + 1)
       level-more q = record { high = omega arith; rest = v .rest ∙ (level-step ∙ rw (eq-eqb _ _ q)) }
 
-pub before-by-length : (a b : Text) → (length a ≡ length b → ⊥) → ltb (length a) (length b) ≡ before a b
-before-by-length a b d = sym (before-other a b d)
+pub shorter-by-length : (a b : Text) → (length a ≡ length b → ⊥) → ltb (length a) (length b) ≡ shorter a b
+unfolding shorter
+shorter-by-length a b d = sym (then-other length lower a b d)
 
-pub before-by-bytes : (a b : Text) (r : Bool) → length a ≡ length b → r ≡ lower a b → r ≡ before a b
-before-by-bytes a b r e h = h ∙ sym (before-alike a b e)
+pub shorter-by-bytes : (a b : Text) (r : Bool) → length a ≡ length b → r ≡ lower a b → r ≡ shorter a b
+unfolding shorter
+shorter-by-bytes a b r e h = h ∙ sym (then-alike length lower a b e)
+
+-- two names whose keys are known
+module _ (a b : Text) (k l : ℕ) (x : k ≡ keyOf a) (y : l ≡ keyOf b) where
+  pub before-by-key : (k ≡ l → ⊥) → ltb k l ≡ before a b
+  unfolding before
+  before-by-key d = rw (x, y) (sym (then-other keyOf shorter a b (λ z. d (x ∙ (z ∙ sym y)))))
+
+  pub before-by-text : k ≡ l → (v w : Text) → v ≡ a → w ≡ b → (r : Bool) → r ≡ shorter v w → r ≡ before a b
+  unfolding before
+  before-by-text z v w p q r h = (rw (p, q) at h) ∙ sym (then-alike keyOf shorter a b (sym x ∙ (z ∙ y)))
+
+pub key-none : (w : Text) → length w ≡ 0 → 0 ≡ keyOf w
+unfolding keyOf
+key-none [] e = refl
+key-none (b ∷ w) e = absurd (omega arith)

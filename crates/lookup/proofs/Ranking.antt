@@ -238,22 +238,22 @@ module _ (s : Text) (t : List ℕ) (n : ℕ) (v : Named s t n) where
             absurd (omega arith)
 
     -- the name of rank r is not before w, so the order tells the two apart
-    module _ (k : r < n) (x : Text) (xe : x ≡ nameAt s t (getD t (128 + r) 0)) (b : Bool) (be : b ≡ before w x) where
+    module _ (k : r < n) (b : Bool) (be : b ≡ before w (nameAt s t (getD t (128 + r) 0))) where
       pub rank-behind : b ≡ true → mostNames ≡ numberOf s t n w
       rank-behind q = find-other k (go (same w (nameAt s t (getD t (128 + r) 0))) refl)
         where
           go : (u : Bool) → same w (nameAt s t (getD t (128 + r) 0)) ≡ u → same w (nameAt s t (getD t (128 + r) 0)) ≡ false
           go false e = e
           go true e =
-              let z : w ≡ x = same-eq w (nameAt s t (getD t (128 + r) 0)) e ∙ sym xe in
+              let z : w ≡ nameAt s t (getD t (128 + r) 0) = same-eq w (nameAt s t (getD t (128 + r) 0)) e in
               absurd (no (sym (before-self w) ∙ (ap (before w) z ∙ (sym be ∙ q))))
 
       pub rank-this : b ≡ false → getD t (128 + r) 0 ≡ numberOf s t n w
       rank-this q =
-          let y : before x w ≡ false = ap (λ (u : Text). before u w) (xe ∙ sym (ranked-is s t r)) ∙ h .above r (omega arith) k in
-          let z : w ≡ x = before-one w x (sym be ∙ q) y in
-          find-this k (ap (λ (u : Text). same u (nameAt s t (getD t (128 + r) 0))) (z ∙ xe) ∙ same-self (nameAt s t (getD t (128 + r) 0)))
+          let y : before (nameAt s t (getD t (128 + r) 0)) w ≡ false = ap (λ (u : Text). before u w) (sym (ranked-is s t r)) ∙ h .above r (omega arith) k in
+          let z : w ≡ nameAt s t (getD t (128 + r) 0) = before-one w (nameAt s t (getD t (128 + r) 0)) (sym be ∙ q) y in
+          find-this k (ap (λ (u : Text). same u (nameAt s t (getD t (128 + r) 0))) z ∙ same-self (nameAt s t (getD t (128 + r) 0)))
 
 -- what the loop has seen of a name, by its number
-pub seen : (s : Text) (t : List ℕ) (w x : Text) (i : ℕ) (r b : Bool) → x ≡ nameAt s t (getD t (128 + i) 0) → r ≡ before x w → r ≡ b → before (rankedAt s t i) w ≡ b
-seen s t w x i r b e f g = ap (λ (y : Text). before y w) (ranked-is s t i ∙ sym e) ∙ (sym f ∙ g)
+pub seen : (s : Text) (t : List ℕ) (w : Text) (i : ℕ) (r b : Bool) → r ≡ before (nameAt s t (getD t (128 + i) 0)) w → r ≡ b → before (rankedAt s t i) w ≡ b
+seen s t w i r b f g = ap (λ (y : Text). before y w) (ranked-is s t i) ∙ (sym f ∙ g)

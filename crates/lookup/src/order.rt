@@ -1,7 +1,8 @@
 // The order of names.
 ghost use mathlib.Core.Path.{_≡_};
+ghost use Prim.Native.Nat.{_+_, _*_};
 ghost use lib.ListN.{length};
-ghost use Rattle.lookup.specs.Names.{lower, before};
+ghost use Rattle.lookup.specs.Names.{lower, shorter, keyOf};
 
 // Two texts of one length, byte by byte.
 fn lower_than(a: &[u8], b: &[u8]) -> bool
@@ -18,12 +19,30 @@ fn lower_than(a: &[u8], b: &[u8]) -> bool
     false
 }
 
-// The shorter text first: most are told apart by their lengths.
-pub fn precedes(a: &[u8], b: &[u8]) -> bool
-    ensures { λ r. ⌜ r ≡ before (now (a .entry)) (now (b .entry)) ⌝ }
+// The shorter text first, and those of one length byte by byte.
+pub fn is_shorter(a: &[u8], b: &[u8]) -> bool
+    ensures { λ r. ⌜ r ≡ shorter (now (a .entry)) (now (b .entry)) ⌝ }
 {
     if a.len() != b.len() {
         return a.len() < b.len();
     }
     lower_than(a, b)
+}
+
+// Three bytes as one number.
+fn three(a: u8, b: u8, c: u8) -> usize
+    ensures { λ r. ⌜ r ≡ a * 65536 + b * 256 + c ⌝ }
+{
+    a as usize * 65536 + b as usize * 256 + c as usize
+}
+
+// The key of a name: most are told apart by it.
+pub fn key_of(w: &[u8]) -> usize
+    ensures { λ r. ⌜ r ≡ keyOf (now (w .entry)) ⌝ }
+{
+    let n = w.len();
+    if n == 0 {
+        return 0;
+    }
+    three(w[0], w[n - 1], w[n / 2])
 }

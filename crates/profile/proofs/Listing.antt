@@ -156,7 +156,7 @@ unfolding namesAt
 names-none s t = refl
 
 module _ (s : List ℕ) where
-  pub listing-start : (t : List ℕ) → length t ≡ 192 → Listing s t 0 0 0
+  pub listing-start : (t : List ℕ) → length t ≡ 256 → Listing s t 0 0 0
   listing-start t h =
       record {
         passed = [];

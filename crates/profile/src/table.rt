@@ -27,10 +27,10 @@ pub fn option_count(options: &[u8]) -> usize
 }
 
 // Lists the first 64 options, each once, and says how many are listed.
-pub fn list_options(options: &[u8], table: &mut [usize; 192]) -> usize
+pub fn list_options(options: &[u8], table: &mut [usize; 256]) -> usize
     ensures { λ r. ⌜ Listed (now (options .entry)) (now (table .exit)) r ⌝ }
 {
-    *table = [0; 192];
+    *table = [0; 256];
     let mut count: usize = 0;
     let mut seen: usize = 0;
     let mut start: usize = 0;
@@ -51,7 +51,7 @@ pub fn list_options(options: &[u8], table: &mut [usize; 192]) -> usize
 }
 
 // Any of the first 64 options is the word.
-pub fn has_option(options: &[u8], table: &[usize; 192], count: usize, word: &[u8]) -> bool
+pub fn has_option(options: &[u8], table: &[usize; 256], count: usize, word: &[u8]) -> bool
     requires { ⌜ Listed (now options) (now table) count ⌝ }
     ensures { λ r. ⌜ r ≡ anyOf (sameText (now (word .entry))) (take mostOptions (optionsOf (now (options .entry)))) ⌝ }
 {

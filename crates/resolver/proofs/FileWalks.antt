@@ -36,7 +36,7 @@ unfolding leftFirings groupsAt follow lines
 fires-all p s t = sym (firings-start s p)
 
 module _ (p : Profile) (s : Text) (d₀ : Text) (q₀ : Cursors) where
-  pub walk-start : (t : List ℕ) (rows : List Bool) → length t ≡ 192 → length rows ≡ 640 → lineFaults s ≡ [] → Low (q₀ .at) →
+  pub walk-start : (t : List ℕ) (rows : List Bool) → length t ≡ 256 → length rows ≡ 640 → lineFaults s ≡ [] → Low (q₀ .at) →
       WalkGoing p s d₀ q₀ t rows d₀ (record { progress = atStart; cursors = q₀ })
   walk-start t rows a b c l =
       let v = scan-start s t a in

@@ -70,14 +70,14 @@ fn fire_file(
         (now (s .entry)) (now (buf .entry)) (now (buf .exit)) at r ⌝ }
 {
     let t = TABLE;
-    let mut table: [usize; 192] = [0; 192];
+    let mut table: [usize; 256] = [0; 256];
     let listed = list_options(options, &mut table);
     let n = field_count(layouts);
     let mut bounds: [usize; 16] = [0; 16];
     list_fields(layouts, variants, &mut bounds);
     let fence = fence_of(s);
     let mut places: [usize; 20] = [0; 20];
-    let mut names: [usize; 192] = [0; 192];
+    let mut names: [usize; 256] = [0; 256];
     let mut rows: [bool; 640] = [false; 640];
     let mut scratch: [u8; 8192] = [0; 8192];
     let q = Cursors {
@@ -129,7 +129,7 @@ fn staged(
     if p.number != 0 {
         return refused(p);
     }
-    let mut names: [usize; 192] = [0; 192];
+    let mut names: [usize; 256] = [0; 256];
     let c = check_file(s, &mut names, heads);
     let f = c.refusal;
     if f.number != 0 {

@@ -105,7 +105,7 @@ names-is s t p = refl
 
 -- what a line carries on: its refusal, and where there is none the names and the heading after it
 pub record Carries (s t t′ : Text) (p r : Progress) (e : Entry) : Type 0 where
-  pub size : length t′ ≡ 192
+  pub size : length t′ ≡ 256
   pub fault : r .fault ≡ lineFault (namesAt s t (p .groups)) (p .present) e
   pub named : r .fault ≡ 0 → Named s t′ (r .groups)
   pub names : r .fault ≡ 0 → namesAt s t′ (r .groups) ≡ namesAfter (namesAt s t (p .groups)) e

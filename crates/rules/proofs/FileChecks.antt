@@ -35,7 +35,7 @@ pub record Listing (s u : Text) (n at line : ℕ) : Type 0 where
   pub heads : Heads s u n
   pub next : n < mostHeads → fromHeading n (lines s) ≡ toHeading (follow s at line)
 
-pub scan-start : (s t : Text) → length t ≡ 192 → Scanning s t atStart
+pub scan-start : (s t : Text) → length t ≡ 256 → Scanning s t atStart
 unfolding leftFaults leftNames namesAt follow lines
 scan-start s t h =
     record {
@@ -68,7 +68,7 @@ pub refuses : (s t u : Text) (f : Refusal) → f ≡ firstRefusal (fileRefusals 
 refuses s t u f e z c =
     record {
       refusal = e;
-      named = named-none s t (ap length (c .names) ∙ length-replicate {A = ℕ} 192 0);
+      named = named-none s t (ap length (c .names) ∙ length-replicate {A = ℕ} 256 0);
       names = λ y. absurd (z y);
       heads = heads-none s u (ap length (c .heads) ∙ length-replicate {A = ℕ} (2 * mostHeads) 0);
       all = λ y l. absurd (z y);

@@ -26,7 +26,7 @@ module _ (s t : Text) (n a e : ℕ) (t′ : Text) (r : ℕ) (v : Named s t n) (u
         names = λ (z : _≡_ {A = ℕ} 10 0). absurd (omega arith);
       }
     where
-      by : (b : Bool) → isNew s t n (part s a e) ≡ b → length t′ ≡ 192
+      by : (b : Bool) → isNew s t n (part s a e) ≡ b → length t′ ≡ 256
       by true q = let z = added-count s t n a e t′ r u q in absurd (omega arith)
       by false q = rw (added-none s t n a e t′ r u q .0) (v .size)
 

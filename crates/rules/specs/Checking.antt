@@ -105,7 +105,7 @@ IsKind ws e kind.Rule = e ≡ rule ws
 
 -- one group more, with the name from a to e: its refusal, 10 or 0, and the table after it
 pub record Adds (s t t′ : Text) (n a e r : ℕ) : Type 0 where
-  pub size : length t′ ≡ 192
+  pub size : length t′ ≡ 256
   pub fault : r ≡ cond (anyOf (same (part s a e)) (namesAt s t n) || leb mostGroups (length (namesAt s t n))) 10 0
   pub named : r ≡ 0 → Named s t′ (n + 1)
   pub names : r ≡ 0 → namesAt s t′ (n + 1) ≡ part s a e ∷ namesAt s t n
@@ -135,7 +135,7 @@ pub record Onward (s t t′ : Text) (p r : Progress) : Type 0 where
   pub read : follow s (p .at) (p .line) ≡ lineOf (p .line) (r .heading) words ∷ follow s (r .at) (r .line)
 
 pub record Steps (s t t′ : Text) (p r : Progress) : Type 0 where
-  pub size : length t′ ≡ 192
+  pub size : length t′ ≡ 256
   pub wrong : (r .fault ≡ 0 → ⊥) → firstRefusal (leftFaults s t p) ≡ record { number = r .fault; place = p .line }
   pub right : r .fault ≡ 0 → Onward s t t′ p r
 
@@ -173,7 +173,7 @@ abbrev pub refusedWith : Refusal → Checked
 refusedWith f = record { refusal = f; groups = 0; heads = 0 }
 
 pub record Cleared (t u : List ℕ) : Type 0 where
-  pub names : t ≡ replicate 192 0
+  pub names : t ≡ replicate 256 0
   pub heads : u ≡ replicate (2 * mostHeads) 0
 
 -- What a check promises: the first refusal of the file; and, where there is none, where the names of its groups stand, and where its headings, all of them

@@ -55,7 +55,7 @@ pub fn at_start() -> Progress
 }
 
 // One group more, with the name from `start` to `end`: refusal 10, or 0 and its place is kept.
-fn add_group(s: &[u8], names: &mut [usize; 192], groups: usize, start: usize, end: usize) -> usize
+fn add_group(s: &[u8], names: &mut [usize; 256], groups: usize, start: usize, end: usize) -> usize
     requires { ⌜ Named (now s) (now names) groups × (start ≤ end) × (end ≤ length (now s)) ⌝ }
     ensures { λ r. ⌜ Adds (now (s .entry)) (now (names .entry)) (now (names .exit)) groups start end r ⌝ }
 {
@@ -81,7 +81,7 @@ fn check_words(
     t: &[u8; 512],
     fence: usize,
     places: &mut [usize],
-    names: &mut [usize; 192],
+    names: &mut [usize; 256],
     p: Progress,
 ) -> Progress
     requires { ⌜ Table (now t) × Fenced (now s) fence × (length (now places) ≡ 20) × Ready (now s) (now names) p × (p .at < length (now s)) ⌝ }
@@ -119,7 +119,7 @@ fn check_line(
     t: &[u8; 512],
     fence: usize,
     places: &mut [usize],
-    names: &mut [usize; 192],
+    names: &mut [usize; 256],
     p: Progress,
 ) -> Progress
     requires { ⌜ Table (now t) × Fenced (now s) fence × (length (now places) ≡ 20) × Ready (now s) (now names) p × (p .at < length (now s)) ⌝ }
@@ -151,14 +151,14 @@ fn list_heading(heads: &mut [usize; 256], n: usize, heading: bool, at: usize, li
 
 // The answer for a file that is refused: both tables are all zero.
 fn refuse(
-    names: &mut [usize; 192],
+    names: &mut [usize; 256],
     heads: &mut [usize; 256],
     number: usize,
     place: usize,
 ) -> Checked
     ensures { λ r. ⌜ (r ≡ refusedWith (record { number = number; place = place })) × Cleared (now (names .exit)) (now (heads .exit)) ⌝ }
 {
-    *names = [0; 192];
+    *names = [0; 256];
     *heads = [0; 256];
     Checked {
         refusal: Refusal { number, place },
@@ -168,13 +168,13 @@ fn refuse(
 }
 
 // The first refusal of a file, 3 to 10, or number 0; where the names of its groups stand, and where its first headings.
-pub fn check_file(s: &[u8], names: &mut [usize; 192], heads: &mut [usize; 256]) -> Checked
+pub fn check_file(s: &[u8], names: &mut [usize; 256], heads: &mut [usize; 256]) -> Checked
     ensures { λ r. ⌜ Checks (now (s .entry)) (now (names .exit)) (now (heads .exit)) r ⌝ }
 {
     if 65536 < s.len() {
         return refuse(names, heads, 3, 0);
     }
-    *names = [0; 192];
+    *names = [0; 256];
     *heads = [0; 256];
     let t = TABLE;
     let fence = fence_of(s);
