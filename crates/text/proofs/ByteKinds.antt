@@ -2,7 +2,7 @@
 use Prim.Native.Nat.{ℕ, _-_, _≤_}
 use native.Mathlib.Omega.{arith}
 use mathlib.Core.Path.{_≡_, refl, sym, _∙_}
-use mathlib.Core.Bool.{Bool, true, false, _||_, cond}
+use mathlib.Core.Bool.{Bool, true, false, not, _||_, _&&_, cond}
 use borrow.Author.Tests.{ne-eqb, eqb-true, eqb-false, ltb-false}
 use lib.Dec.{eqb, ltb}
 use Rattle.text.specs.declared.Class.the-variants.{Blank, Join, Slashes, Bang, Other}
@@ -10,7 +10,7 @@ use Rattle.text.specs.declared.Place.the-variants.{Space, Word}
 use Rattle.text.specs.declared.Fast.the-variants as fast
 use Rattle.text.specs.Marks.{classOf, char, join, atOther}
 use Rattle.text.specs.Words.{badByte}
-use Rattle.text.specs.Reading.{wordly, inWord, kindOf}
+use Rattle.text.specs.Reading.{wordly, inWord, kindOf, beginsPlain}
 use Rattle.text.proofs.Lists.{no}
 
 pub record Plain (b : ℕ) : Type 0 where
@@ -116,6 +116,29 @@ kind-zero b c h = go (eqb b 32) (eqb b 9) (eqb b 10) (badByte b) (eqb b 47) refl
       },
       q,
     )
+
+-- a slash with no slash behind it
+lone-slash : (b c : ℕ) → b ≡ 47 → (c ≡ 47 → ⊥) → Begins b c × (badByte b ≡ false)
+unfolding kindOf badByte
+lone-slash b c h k = (
+  record {
+    blank = λ e. eqb-false 3 1 refl (rw h at e);
+    feed = λ e. eqb-false 47 10 refl (sym h ∙ e);
+    joins = λ e j. eqb-false 47 92 refl (sym h ∙ e);
+    note = λ e. k;
+  },
+  rw h refl,
+)
+
+pub begins-plain : (r : Bool) (b c : ℕ) → r ≡ beginsPlain b c → r ≡ true → Begins b c × (badByte b ≡ false)
+unfolding beginsPlain
+begins-plain r b c h k = go (eqb (kindOf b) 0) (eqb b 47) (eqb c 47) refl refl refl (sym h ∙ k)
+  where
+    go : (t u v : Bool) → eqb (kindOf b) 0 ≡ t → eqb b 47 ≡ u → eqb c 47 ≡ v → t || (u && not v) ≡ true → Begins b c × (badByte b ≡ false)
+    go true u v p q r e = kind-zero b c (eqb-true _ _ p)
+    go false true true p q r e = absurd (no e)
+    go false true false p q r e = lone-slash b c (eqb-true _ _ q) (eqb-false _ _ r)
+    go false false v p q r e = absurd (no e)
 
 pub join-class : (b c : ℕ) → b ≡ 92 → c ≡ 10 → Join ≡ classOf b c
 unfolding classOf

@@ -2,7 +2,7 @@
 use mathlib.Core.Path.{_≡_}
 use Prim.Native.Nat.{ℕ, zero, suc, min, _+_, _-_, _≤_, _<_}
 use mathlib.Core.List.{List, [], _∷_, _++_}
-use mathlib.Core.Bool.{Bool, true, false, cond}
+use mathlib.Core.Bool.{Bool, true, false, not, _||_, _&&_, cond}
 use lib.Dec.{eqb, leb}
 use lib.ListN.{length, drop, getD}
 use Rattle.text.specs.declared.Class.{Class}
@@ -57,6 +57,10 @@ levelOf b = cond (badByte b) 2 (cond (eqb b 37) 1 0)
 -- the kind of a byte: 0 a plain byte that is no slash, 1 a blank, 2 LF, 3 any other
 unfoldable pub kindOf : ℕ → ℕ
 kindOf b = cond (eqb b 32) 1 (cond (eqb b 9) 1 (cond (eqb b 10) 2 (cond (badByte b) 3 (cond (eqb b 47) 3 0))))
+
+-- the byte b with c behind it begins a plain word: a byte of kind 0, or a slash that begins no comment
+unfoldable pub beginsPlain : ℕ → ℕ → Bool
+beginsPlain b c = eqb (kindOf b) 0 || (eqb b 47 && not (eqb c 47))
 
 pub record Table (t : List ℕ) : Type 0 where
   pub levels : (b : ℕ) → b < 256 → getD t b 0 ≡ levelOf b

@@ -6,7 +6,7 @@ ghost use lib.Dec.{eqb};
 ghost use lib.ListN.{length, getD, drop};
 ghost use Rattle.text.specs.Bytes.{first, part, anyOf};
 ghost use Rattle.text.specs.Words.{badByte};
-ghost use Rattle.text.specs.Reading.{WordEnd, PlainEnd, RunEnd, Skipped, OddWord, CommentEnd, FastWord, PlainWord, ValueWord, ByteWord, NextWord, FirstFeed, Passed, Opens, Table, Fenced, Within, kindOf};
+ghost use Rattle.text.specs.Reading.{WordEnd, PlainEnd, RunEnd, Skipped, OddWord, CommentEnd, FastWord, PlainWord, ValueWord, ByteWord, NextWord, FirstFeed, Passed, Opens, Table, Fenced, Within, kindOf, beginsPlain};
 use super::Fast;
 use super::LineStart;
 use super::Next;
@@ -253,13 +253,28 @@ pub fn next_word(s: &[u8], t: &[u8; 512], fence: usize, from: usize, line: usize
     }
 }
 
+// Whether a plain word may begin at i: with a byte of kind 0, or with a slash that begins no comment.
+fn begins_plain(s: &[u8], t: &[u8; 512], fence: usize, i: usize) -> bool
+    requires { ⌜ (i < fence) × (Table (now t) × Fenced (now s) fence) ⌝ }
+    ensures { λ r. ⌜ r ≡ beginsPlain (getD (now (s .entry)) i 0) (first (drop (i + 1) (now (s .entry)))) ⌝ }
+{
+    let b = s[i];
+    if kind(t, b) == 0 {
+        return true;
+    }
+    if b != 47 {
+        return false;
+    }
+    s[i + 1] != 47
+}
+
 // A plain word, if one is next. `Other` says nothing: it is right wherever it is given.
 pub fn plain_word(s: &[u8], t: &[u8; 512], fence: usize, from: usize) -> Plain
     requires { ⌜ (from < fence) × (Table (now t) × Fenced (now s) fence) ⌝ }
     ensures { λ r. ⌜ PlainWord (now (s .entry)) fence from r ⌝ }
 {
     let i = skip_fast(s, t, fence, from);
-    if kind(t, s[i]) != 0 {
+    if !begins_plain(s, t, fence, i) {
         return Plain::Other;
     }
     let p = plain_end(s, t, fence, i + 1);
