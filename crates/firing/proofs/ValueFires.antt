@@ -2,23 +2,27 @@
 use Prim.Native.Nat.{ℕ, zero, suc, _+_, _-_, _≤_, _<_}
 use native.Mathlib.Omega.{arith}
 use native.Mathlib.Numerals.{add-one}
-use mathlib.Core.Path.{_≡_, refl}
+use mathlib.Core.Path.{_≡_, refl, ap}
 use mathlib.Core.List.{List, [], _∷_, _++_}
-use lib.ListN.{length, take, drop, getD, length-take, drop-of-length-le}
-use lib.Seq.{drop-cons, getD-take}
+use mathlib.Core.Bool.{true}
+use lib.ListN.{length, take, drop, getD, length-drop}
+use lib.Seq.{drop-cons}
 use lib.Dec.{ltb}
 use borrow.Author.Tests.{ltb-false}
-use Rattle.text.specs.Bytes.{Text, Words, anyOf, concatMap}
+use Rattle.text.specs.Bytes.{Text, Words, part, anyOf, concatMap}
 use Rattle.text.specs.Words.{tooLong}
-use Rattle.text.proofs.Lists.{neither}
+use Rattle.text.specs.Reading.{left, FoundWord, NoWord}
+use Rattle.text.proofs.Lists.{neither, any-drop}
+use Rattle.text.proofs.Passing.{Passing, passing-start, passing-word, passing-stop, passing-then}
 use Rattle.profile.specs.Profile.{Profile, fields, textsOf, profileOf}
 use Rattle.values.specs.Values.{filled}
 use Rattle.values.specs.Filling.{Filled}
 use Rattle.values.specs.Spread.{cuts, spread, expanded}
 use Rattle.values.proofs.Profiles.{expanded-by}
 use Rattle.firing.specs.declared.Cursors.{Cursors}
+use Rattle.firing.specs.declared.RuleRun.{RuleRun}
 use Rattle.answers.specs.Firings.{fired, ruleFires}
-use Rattle.firing.specs.Writing.{FiredOne, Low, runBuf, runCur, FiredRule, ShortWords}
+use Rattle.firing.specs.Writing.{FiredOne, Low, runBuf, runCur, ShortWords, FiredLine, BehindFirst}
 use Rattle.firing.proofs.Going.{Going, going-start, going-more, going-end}
 
 pub value-fired : (m l v : Text) (n k : ℕ) (x a b : Text) (r : ℕ) (d d′ : Text) (q q′ : Cursors) (c : ℕ) → n ≡ length (fields l) →
@@ -27,15 +31,6 @@ pub value-fired : (m l v : Text) (n k : ℕ) (x a b : Text) (r : ℕ) (d d′ : 
 value-fired m l v n k x a b r d d′ q q′ c e h f =
     let z : r - 0 ≡ r = omega arith in
     rw (expanded-by m l v [] k n x (take (r - 0) b) e (rw z (h .text))) at f
-
--- the loop over a rule's right words
-
-module _ (p : Profile) (d₀ : Text) (q₀ : Cursors) (k : ℕ) (cs : List ℕ) (ws : Words) (from count : ℕ) where
-  pub record RuleGoing (d : Text) (q : Cursors) (j : ℕ) : Type 0 where
-    pub low : from ≤ j
-    pub high : j ≤ count
-    pub going : (l : ℕ) → Going d₀ q₀ (ruleFires p l k (take (count - from) cs) (drop from ws)) d q
-        (ruleFires p l k (drop (j - from) (take (count - from) cs)) (drop j ws))
 
 fires-cons : (p : Profile) (l k c : ℕ) (cs : List ℕ) (w : Text) (ws : Words) →
     ruleFires p l k (c ∷ cs) (w ∷ ws) ≡ fired l k c (expanded p k w) ++ ruleFires p l k cs ws
@@ -50,49 +45,82 @@ fires-none p l k (c ∷ cs) = refl
 drop-get {ℓ} : {A : Type ℓ} (xs : List A) (a : A) (j : ℕ) → j < length xs → drop j xs ≡ getD xs j a ∷ drop (j + 1) xs
 drop-get xs a j h = rw add-one (drop-cons xs j a h)
 
-module _ (p : Profile) (d₀ : Text) (q₀ : Cursors) (k : ℕ) (cs : List ℕ) (ws : Words) (from count : ℕ)
-    (size : length cs ≡ 5) (few : count ≤ from + 5) (all : count ≡ length ws) where
-  pub rule-start : from ≤ count → Low (q₀ .at) → RuleGoing p d₀ q₀ k cs ws from count d₀ q₀ from
-  rule-start h low =
-      record {
-        low = omega arith;
-        high = h;
-        going = λ l. let e : from - from ≡ 0 = omega arith in rw e (going-start d₀ q₀ _ low);
-      }
-
-  module _ (d : Text) (q : Cursors) (j : ℕ) (v : RuleGoing p d₀ q₀ k cs ws from count d q j) where
-    pub rule-more : (d′ : Text) (q′ : Cursors) → j < count → FiredOne d d′ q q′ (getD cs (j - from) 0) (expanded p k (getD ws j [])) →
-        RuleGoing p d₀ q₀ k cs ws from count d′ q′ (j + 1)
-    rule-more d′ q′ h f =
-        record {
-          low = omega (arith, v .low);
-          high = omega arith;
-          going = λ l.
-              let i : j - from < length (take (count - from) cs) = simp length-take (omega (arith, v .low)) in
-              let e : j + 1 - from ≡ j - from + 1 = omega (arith, v .low) in
-              let g : getD (take (count - from) cs) (j - from) 0 ≡ getD cs (j - from) 0 = getD-take (count - from) cs (j - from) 0 (omega (arith, v .low)) in
-              let s : ruleFires p l k (drop (j - from) (take (count - from) cs)) (drop j ws) ≡
-              fired l k (getD cs (j - from) 0) (expanded p k (getD ws j [])) ++ ruleFires p l k (drop (j + 1 - from) (take (count - from) cs)) (drop (j + 1) ws) =
-              rw (drop-get (take (count - from) cs) 0 (j - from) i, drop-get ws [] j (omega arith), fires-cons, g, e) in
-              going-more d₀ q₀ _ d q _ _ d′ q′ (rw s at (v .going l)) (f .bytes l k) (f .places l k);
-        }
-
-    pub rule-end : count ≤ j → FiredRule p d₀ d q₀ q k (take (count - from) cs) (drop from ws)
-    rule-end h =
-        record {
-          bytes = λ l. over l .0;
-          places = λ l. over l .1;
-        }
-      where
-        none : (l : ℕ) → ruleFires p l k (drop (j - from) (take (count - from) cs)) (drop j ws) ≡ []
-        none l = let z : length ws ≤ j = omega arith in rw (drop-of-length-le ws z) (fires-none p l k _)
-
-        over : (l : ℕ) → (d ≡ runBuf d₀ q₀ (ruleFires p l k (take (count - from) cs) (drop from ws))) × (q ≡ runCur q₀ (ruleFires p l k (take (count - from) cs) (drop from ws)))
-        over l = going-end d₀ q₀ _ d q (rw (none l) at (v .going l))
-
 -- a word that is not too long has room in the scratch
 pub word-room : (ws : Words) (j : ℕ) → ShortWords ws → j < length ws → length (getD ws j []) ≤ 256
 unfolding anyOf tooLong
 word-room [] j h l = absurd (omega arith)
 word-room (w ∷ ws) zero h l = ltb-false 256 (length w) (neither (ltb 256 (length w)) (anyOf tooLong ws) h .0)
 word-room (w ∷ ws) (suc j) h l = word-room ws j (neither (ltb 256 (length w)) (anyOf tooLong ws) h .1) (omega arith)
+
+short-rest : (w : Text) (ws : Words) → ShortWords (w ∷ ws) → ShortWords ws
+unfolding anyOf
+short-rest w ws h = neither (tooLong w) (anyOf tooLong ws) h .1
+
+-- the loop over a line's words, of which j have fired
+
+module _ (p : Profile) (s : Text) (from n : ℕ) (d₀ : Text) (q₀ : Cursors) (k : ℕ) (cs : List ℕ) where
+  pub record WordsGoing (d : Text) (q : Cursors) (i m j : ℕ) : Type 0 where
+    pub passing : Passing s from n i m
+    pub count : j + length (left s i) ≡ length (left s from)
+    pub short : ShortWords (left s i)
+    pub going : (l : ℕ) → Going d₀ q₀ (ruleFires p l k cs (left s from)) d q (ruleFires p l k (drop j cs) (left s i))
+
+  pub words-start : from ≤ length s → n ≤ from + 1 → ShortWords (left s from) → Low (q₀ .at) → WordsGoing d₀ q₀ from n 0
+  words-start a b h low = record { passing = passing-start s from n a b; count = omega arith; short = h; going = λ l. going-start d₀ q₀ _ low }
+
+  module _ (d : Text) (q : Cursors) (i m j : ℕ) (v : WordsGoing d q i m j) where
+    module _ (a e l f : ℕ) (w : FoundWord s i m a e l f) where
+      word-short : ShortWords (part s a e ∷ left s e)
+      word-short = rw (w .text) at (v .short)
+
+      pub word-fits : length (part s a e) ≤ 256
+      word-fits = word-room (part s a e ∷ left s e) 0 word-short (omega arith)
+
+      pub words-few : length (left s from) ≤ 5 → j < 5
+      words-few h = omega (arith, v .count, ap length (w .text))
+
+      pub words-more : length cs ≡ 5 → length (left s from) ≤ 5 → (d′ : Text) (q′ : Cursors) → FiredOne d d′ q q′ (getD cs j 0) (expanded p k (part s a e)) →
+          WordsGoing d′ q′ e l (j + 1)
+      words-more z h d′ q′ g =
+          record {
+            passing = passing-word s from n i m (v .passing) a e l f w;
+            count = omega (arith, v .count, ap length (w .text));
+            short = short-rest (part s a e) (left s e) word-short;
+            going = λ x.
+                let c : j < length cs = omega (arith, words-few h) in
+                let y : ruleFires p x k (drop j cs) (left s i) ≡ fired x k (getD cs j 0) (expanded p k (part s a e)) ++ ruleFires p x k (drop (j + 1) cs) (left s e) =
+                rw (drop-get cs 0 j c, w .text, fires-cons) in
+                going-more d₀ q₀ _ d q _ _ d′ q′ (rw y at (v .going x)) (g .bytes x k) (g .places x k);
+          }
+
+    pub words-end : (r l : ℕ) → NoWord s i m r l → FiredLine p cs (left s from) s from n d₀ d q₀ k (record { fired = true; at = r; line = l; cursors = q })
+    words-end r l w = record { told = refl; fires = record { bytes = λ x. over x .0; places = λ x. over x .1 }; passed = passing-stop s from n i m (v .passing) r l w }
+      where
+        over : (x : ℕ) → (d ≡ runBuf d₀ q₀ (ruleFires p x k cs (left s from))) × (q ≡ runCur q₀ (ruleFires p x k cs (left s from)))
+        over x = going-end d₀ q₀ _ d q (rw (w .none, fires-none p x k (drop j cs)) at (v .going x))
+
+-- behind the first word of a line
+
+module _ (s : Text) (from n : ℕ) where
+  pub behind-word : (a e l f : ℕ) → FoundWord s from n a e l f → BehindFirst s from n e l
+  behind-word a e l f w = record { low = omega (arith, w .low, w .some); high = w .high; few = w .few; text = rw (w .text) refl; onto = w .onto }
+
+  pub behind-none : from ≤ length s → n ≤ from + 1 → (r l : ℕ) → NoWord s from n r l → BehindFirst s from n from n
+  behind-none a b r l w = record { low = omega arith; high = a; few = b; text = rw (w .none) refl; onto = refl }
+
+  module _ (i m : ℕ) (v : BehindFirst s from n i m) where
+    pub behind-count : length (left s from) ≤ 6 → length (left s i) ≤ 5
+    behind-count h = rw (v .text) (omega (arith, length-drop 1 (left s from)))
+
+    pub behind-short : ShortWords (left s from) → ShortWords (left s i)
+    behind-short h = rw (v .text) (any-drop tooLong 1 (left s from) h)
+
+    pub behind-fired : (p : Profile) (cs : List ℕ) (d d′ : Text) (q : Cursors) (k : ℕ) (r : RuleRun) → FiredLine p cs (left s i) s i m d d′ q k r →
+        FiredLine p cs (drop 1 (left s from)) s from n d d′ q k r
+    behind-fired p cs d d′ q k r f =
+        record {
+          told = f .told;
+          fires = rw (v .text) at (f .fires);
+          passed =
+              passing-then s from n i m (record { low = v .low; high = v .high; few = v .few; onto = v .onto }) (r .at) (r .line) (f .passed);
+        }

@@ -4,6 +4,9 @@ pub mod rule;
 pub mod stage;
 pub mod writing;
 
+// The most bytes that the five strings may have together.
+pub const LONGEST_TOTAL: u32 = 1048576;
+
 // The next free position of each of ten regions of the buffer (base and additions of component 0, of component 1, ..), which bases are set, and how far all
 // positions together have moved.
 pub struct Cursors {
@@ -16,4 +19,12 @@ pub struct Cursors {
 pub struct Sums {
     pub at: [u32; 10],
     pub total: u32,
+}
+
+// A rule's line that was run: whether it fired, where the next line starts, its number, and what was written.
+pub struct RuleRun {
+    pub fired: bool,
+    pub at: usize,
+    pub line: usize,
+    pub cursors: Cursors,
 }

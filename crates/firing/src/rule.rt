@@ -1,18 +1,22 @@
 // The values of a rule that matches, fired.
 ghost use mathlib.Core.Path.{_≡_};
 ghost use mathlib.Core.List.{[]};
-ghost use Prim.Native.Nat.{_*_, _+_, _-_, _≤_, _<_};
-ghost use lib.ListN.{length, drop, take};
+ghost use Prim.Native.Nat.{_*_, _≤_, _<_};
+ghost use lib.ListN.{length, drop};
+ghost use Rattle.text.specs.Reading.{Within, left};
 ghost use Rattle.output.specs.Store.{farthest};
 ghost use Rattle.profile.specs.Profile.{fields, textsOf, profileOf};
 ghost use Rattle.profile.specs.Bounds.{Bounds};
-ghost use Rattle.rules.specs.Splitting.{wordsOf, Placed};
 ghost use Rattle.values.specs.Filling.{Short, mostPerByte};
 ghost use Rattle.values.specs.Spread.{expanded};
-ghost use Rattle.firing.specs.Writing.{FiredOne, Low, FiredRule, ShortWords};
+ghost use Rattle.firing.specs.Writing.{FiredOne, Low, ShortWords, FiredLine, BehindFirst};
 use super::Cursors;
+use super::LONGEST_TOTAL;
+use super::RuleRun;
 use super::writing::fire;
-use rules::sets::word;
+use text::LineStart;
+use text::Next;
+use text::reader::word_at;
 use values::fill::fill_value;
 
 // A right word of a rule at the layout k: its value is made in `scratch` and fires, unless there is no room for sure.
@@ -35,19 +39,36 @@ fn fire_value(
     ensures { λ r. ⌜ FiredOne (now (buf .entry)) (now (buf .exit)) q r component
         (expanded (profileOf (textsOf (now (model .entry)) (now (layouts .entry)) (now (variants .entry)) [])) k (now (x .entry))) ⌝ }
 {
-    if 1048576 < q.total {
+    if LONGEST_TOTAL < q.total {
         return q;
     }
     let length = fill_value(x, model, layouts, variants, bounds, n, k, scratch);
     fire(&scratch[0..length], n, component, buf, q)
 }
 
-// The right words of a rule from the number `from` on, for the components in turn, at the layout k.
-pub fn fire_rule(
-    w: &[u8],
-    places: &[usize],
+// Behind the first word of a line from `from` on; there, where it has none.
+fn behind_first(s: &[u8], t: &[u8; 512], fence: usize, from: usize, line: usize) -> LineStart
+    requires { ⌜ Within (now s) (now t) fence from line ⌝ }
+    ensures { λ r. ⌜ BehindFirst (now (s .entry)) from line (r .at) (r .line) ⌝ }
+{
+    match word_at(s, t, fence, from, line) {
+        Next::Found {
+            start: _,
+            end,
+            line,
+            fault: _,
+        } => LineStart { at: end, line },
+        Next::Stop { next: _, line: _ } => LineStart { at: from, line },
+    }
+}
+
+// The words of a line from `from` on, for the components in turn, at the layout k.
+fn fire_words(
+    s: &[u8],
+    t: &[u8; 512],
+    fence: usize,
     from: usize,
-    count: usize,
+    line: usize,
     components: [usize; 5],
     model: &[u8],
     layouts: &[u8],
@@ -58,33 +79,96 @@ pub fn fire_rule(
     scratch: &mut [u8],
     buf: &mut [u8],
     q: Cursors,
-) -> Cursors
-    requires { ⌜ Placed (now w) (now places) (wordsOf (now w)) (length (wordsOf (now w))) × (count ≡ length (wordsOf (now w))) × (from ≤ count) × (count ≤ 10)
-        × (count ≤ from + 5) × ShortWords (wordsOf (now w))
+) -> RuleRun
+    requires { ⌜ Within (now s) (now t) fence from line × (length (left (now s) from) ≤ 5) × ShortWords (left (now s) from)
         × (n ≡ length (fields (now layouts))) × (1 ≤ n) × (n < 10) × (k < 100) × Short (now model) (now layouts) (now variants)
         × (8192 ≤ length (now scratch)) × (length (now scratch) ≤ farthest) × (length (now buf) ≤ farthest) × Low (q .at)
         × Bounds (now layouts) (now variants) (now bounds) ⌝ }
-    ensures { λ r. ⌜ FiredRule (profileOf (textsOf (now (model .entry)) (now (layouts .entry)) (now (variants .entry)) []))
-        (now (buf .entry)) (now (buf .exit)) q r k (take (count - from) components) (drop from (wordsOf (now (w .entry)))) ⌝ }
+    ensures { λ r. ⌜ FiredLine (profileOf (textsOf (now (model .entry)) (now (layouts .entry)) (now (variants .entry)) [])) components
+        (left (now (s .entry)) from) (now (s .entry)) from line (now (buf .entry)) (now (buf .exit)) q k r ⌝ }
 {
     let mut m = q;
-    let mut j = from;
-    while j < count {
-        let x = word(w, places, j);
-        m = fire_value(
-            x,
-            components[j - from],
-            model,
-            layouts,
-            variants,
-            bounds,
-            n,
-            k,
-            scratch,
-            buf,
-            m,
-        );
-        j += 1;
+    let mut i = from;
+    let mut l = line;
+    let mut j: usize = 0;
+    loop {
+        match word_at(s, t, fence, i, l) {
+            Next::Found {
+                start,
+                end,
+                line,
+                fault: _,
+            } => {
+                m = fire_value(
+                    &s[start..end],
+                    components[j],
+                    model,
+                    layouts,
+                    variants,
+                    bounds,
+                    n,
+                    k,
+                    scratch,
+                    buf,
+                    m,
+                );
+                i = end;
+                l = line;
+                j += 1;
+            }
+            Next::Stop { next, line } => {
+                return RuleRun {
+                    fired: true,
+                    at: next,
+                    line,
+                    cursors: m,
+                };
+            }
+        }
     }
-    m
+}
+
+// A rule's line from its `=` on, which stands behind `from`: its right words fire for the components in turn, at the layout k.
+pub fn fire_line(
+    s: &[u8],
+    t: &[u8; 512],
+    fence: usize,
+    from: usize,
+    line: usize,
+    components: [usize; 5],
+    model: &[u8],
+    layouts: &[u8],
+    variants: &[u8],
+    bounds: &[usize; 16],
+    n: usize,
+    k: usize,
+    scratch: &mut [u8],
+    buf: &mut [u8],
+    q: Cursors,
+) -> RuleRun
+    requires { ⌜ Within (now s) (now t) fence from line × (length (left (now s) from) ≤ 6) × ShortWords (left (now s) from)
+        × (n ≡ length (fields (now layouts))) × (1 ≤ n) × (n < 10) × (k < 100) × Short (now model) (now layouts) (now variants)
+        × (8192 ≤ length (now scratch)) × (length (now scratch) ≤ farthest) × (length (now buf) ≤ farthest) × Low (q .at)
+        × Bounds (now layouts) (now variants) (now bounds) ⌝ }
+    ensures { λ r. ⌜ FiredLine (profileOf (textsOf (now (model .entry)) (now (layouts .entry)) (now (variants .entry)) [])) components
+        (drop 1 (left (now (s .entry)) from)) (now (s .entry)) from line (now (buf .entry)) (now (buf .exit)) q k r ⌝ }
+{
+    let e = behind_first(s, t, fence, from, line);
+    fire_words(
+        s,
+        t,
+        fence,
+        e.at,
+        e.line,
+        components,
+        model,
+        layouts,
+        variants,
+        bounds,
+        n,
+        k,
+        scratch,
+        buf,
+        q,
+    )
 }

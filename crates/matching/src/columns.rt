@@ -18,7 +18,6 @@ ghost use Rattle.matching.specs.Rows.{Told, ofWord, ofStar, ofValue, mat
 use super::LeftWord;
 use super::groups::group_asked;
 use profile::table::has_option;
-use rules::SetHeading;
 use rules::words::has_dollar;
 use rules::words::is_star;
 use text::Next;

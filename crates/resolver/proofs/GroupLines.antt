@@ -30,7 +30,6 @@ use Rattle.matching.specs.Groups.{groupsAt, Noted}
 use Rattle.resolver.specs.Running.{leftFirings, WalkedLine, FirstWordAt}
 use Rattle.resolver.proofs.HeadingLines.{heading-is}
 use Rattle.resolver.proofs.LineFirings.{nextFirings, firings-line}
-use Rattle.resolver.proofs.RuleLines.{words-from}
 use Rattle.resolver.proofs.Walks.{fires-is, next-group, fault-group, room-left}
 
 -- a word's first byte
@@ -70,6 +69,11 @@ first-found s from m a e l f u =
 
 pub first-none : (s : Text) (from m : ℕ) → left s from ≡ [] → FirstWordAt s from m (record { dollar = false; start = from; end = from; line = m })
 first-none s from m e = record { fault = 0; word = λ h. absurd (no h); yes = λ h. absurd (no h); no = λ h. none-dollar s from e }
+
+-- a part of the file has the words of the file from there on
+words-from : (s : Text) (from : ℕ) (x : Text) → x ≡ drop from s → wordsOf x ≡ left s from
+unfolding wordsOf left
+words-from s from x e = rw e refl
 
 pub tail-dollar : (s : Text) (from : ℕ) (x : Text) → x ≡ drop from s → hasDollar (getD (left s from) 0 []) ≡ false → hasDollar (getD (wordsOf x) 0 []) ≡ false
 tail-dollar s from x e h = rw (words-from s from x e) h

@@ -11,7 +11,7 @@ use borrow.Author.Tests.{eqb-true, eqb-false}
 use Rattle.text.specs.Bytes.{Text, Words}
 use Rattle.text.specs.Words.{tooLong}
 use Rattle.text.specs.Reading.{left, ahead, follow, Opens, Passed}
-use Rattle.text.proofs.Lists.{no}
+use Rattle.text.proofs.Lists.{no, any-drop}
 use Rattle.text.proofs.Readers.{no-lines}
 use Rattle.text.proofs.Passing.{passing-then}
 use Rattle.profile.specs.Profile.{Profile}
@@ -22,15 +22,16 @@ use Rattle.rules.specs.declared.SetHeading.{SetHeading}
 use Rattle.answers.specs.Matching.{members, ruleMatches}
 use Rattle.answers.specs.Firings.{ruleFires, setFires}
 use Rattle.firing.specs.declared.Cursors.{Cursors}
+use Rattle.firing.specs.declared.RuleRun.{RuleRun}
+use Rattle.firing.specs.Writing.{FiredLine}
 use Rattle.matching.specs.declared.LeftWord.{LeftWord}
 use Rattle.matching.specs.Held.{headingBy, SetSized}
 use Rattle.matching.proofs.HeldHeadings.{columns-length, components-length}
 use Rattle.matching.proofs.LeftLoops.{LeftSide, rule-left, some-left}
-use Rattle.resolver.specs.declared.RuleRun.{RuleRun}
-use Rattle.resolver.specs.Running.{rulesFrom, FiredLine, MatchedRule, NextRule, RanNext}
+use Rattle.resolver.specs.Running.{rulesFrom, MatchedRule, NextRule, RanNext}
 use Rattle.resolver.proofs.SetRuns.{CleanLine, clean-line, run-end, run-heading, run-ignored, run-miss, run-hit}
 use Rattle.resolver.proofs.SetLoops.{heading-first}
-use Rattle.resolver.proofs.RuleLines.{any-drop, line-opened, line-read, line-on}
+use Rattle.resolver.proofs.RuleLines.{line-opened, line-read, line-on}
 
 module _ (s : Text) (p : Profile) (gs : Groups) (h : SetHeading) (k : ℕ) (ns : List Text) (at n : ℕ) where
   abbrev H : Heading
@@ -151,7 +152,7 @@ module _ (p : Profile) (gs : Groups) (h : Heading) (k : ℕ) (ns : List Text) (s
         rule = λ t. absurd (no (sym (ap (λ (y : RuleRun). y .fired) z) ∙ t));
       }
 
-  pub ran-rule : (d d′ : Text) (q : Cursors) (r : RuleRun) → x .matched ≡ true → FiredLine p (h .components) s (x .at) (x .line) d d′ q k r →
+  pub ran-rule : (d d′ : Text) (q : Cursors) (r : RuleRun) → x .matched ≡ true → FiredLine p (h .components) (drop 1 (left s (x .at))) s (x .at) (x .line) d d′ q k r →
       RanNext p gs h k ns s at n d d′ q r
   ran-rule d d′ q r e f =
       let w = v .rule e in
@@ -170,7 +171,14 @@ module _ (p : Profile) (gs : Groups) (h : Heading) (k : ℕ) (ns : List Text) (s
             };
       }
 
--- as many words as the heading asks stand behind the left ones
-pub right-count : (h : SetHeading) (p : Profile) (gs : Groups) (k : ℕ) (ns : List Text) (s : Text) (at n : ℕ) (x : LeftWord) → SetSized h → MatchedRule p gs (headingBy h) k ns s at n x →
-    length (left s (x .at)) ≡ 1 + h .right
-right-count h p gs k ns s at n x w v = v .count ∙ rw (components-length h w)
+module _ (h : SetHeading) (p : Profile) (gs : Groups) (k : ℕ) (ns : List Text) (s : Text) (at n : ℕ) (x : LeftWord) (w : SetSized h)
+    (v : MatchedRule p gs (headingBy h) k ns s at n x) where
+  -- behind the left words stand `=` and as many words as the heading asks
+  words-behind : length (left s (x .at)) ≡ 1 + h .right
+  words-behind = v .count ∙ rw (components-length h w)
+
+  pub few-behind : length (left s (x .at)) ≤ 6
+  few-behind = omega (arith, words-behind, w .right)
+
+  pub right-count : length (drop 1 (left s (x .at))) ≡ h .right
+  right-count = length-drop 1 (left s (x .at)) ∙ omega (arith, words-behind)

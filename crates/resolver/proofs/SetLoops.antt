@@ -1,6 +1,5 @@
 -- The loop over the rules of a set that match at one layout: one law for each way through it.
 use Prim.Native.Nat.{ℕ, _+_, _-_, _≤_, _<_}
-use native.Mathlib.Omega.{arith}
 use mathlib.Core.Path.{_≡_, refl, sym, ap, _∙_}
 use mathlib.Core.List.{List, [], _∷_, _++_}
 use mathlib.Core.Bool.{Bool, true, false, cond}
@@ -19,11 +18,11 @@ use Rattle.rules.specs.declared.SetHeading.{SetHeading}
 use Rattle.rules.specs.Checking.{lineOf, presentOf, checkFrom}
 use Rattle.values.proofs.Profiles.{expanded-options}
 use Rattle.firing.specs.declared.Cursors.{Cursors}
+use Rattle.firing.specs.declared.RuleRun.{RuleRun}
 use Rattle.answers.specs.Matching.{members}
 use Rattle.answers.specs.Firings.{fired, ruleFires, setFires}
 use Rattle.firing.specs.Writing.{Low, runBuf, runCur, FiredRule}
 use Rattle.matching.specs.Held.{headingBy, SetSized}
-use Rattle.resolver.specs.declared.RuleRun.{RuleRun}
 use Rattle.resolver.specs.Running.{rulesFrom, RanRule, RanNext, FiredSet}
 use Rattle.matching.proofs.HeldHeadings.{components-are}
 use Rattle.firing.proofs.Going.{Going, going-start, going-more, going-end}
@@ -104,12 +103,22 @@ rule-any m l v o d d′ q q′ k cs ws f =
     }
 
 -- the right words of a rule with as many words as its heading asks
-pub right-told : (r : SetHeading) (w : SetSized r) (p : Profile) (d d′ : Text) (q q′ : Cursors) (k n : ℕ) (ws : Words) → n ≡ 1 + r .right →
-    FiredRule p d d′ q q′ k (take (n - 1) (r .components)) ws → FiredRule p d d′ q q′ k (headingBy r .components) ws
-right-told r w p d d′ q q′ k n ws e f =
-    let z : n - 1 ≡ r .right = omega arith in
-    let x : take (n - 1) (r .components) ≡ headingBy r .components = ap (λ (i : ℕ). take i (r .components)) z ∙ sym (components-are r w) in
+first-components : (p : Profile) (l k : ℕ) (cs : List ℕ) (ws : Words) → ruleFires p l k cs ws ≡ ruleFires p l k (take (length ws) cs) ws
+unfolding ruleFires
+first-components p l k [] [] = refl
+first-components p l k [] (w ∷ ws) = refl
+first-components p l k (c ∷ cs) [] = refl
+first-components p l k (c ∷ cs) (w ∷ ws) = rw (first-components p l k cs ws) refl
+
+pub right-told : (r : SetHeading) (w : SetSized r) (p : Profile) (d d′ : Text) (q q′ : Cursors) (k : ℕ) (ws : Words) → length ws ≡ r .right →
+    FiredRule p d d′ q q′ k (r .components) ws → FiredRule p d d′ q q′ k (headingBy r .components) ws
+right-told r w p d d′ q q′ k ws e f =
     record {
-      bytes = λ l. f .bytes l ∙ ap (λ (y : List ℕ). runBuf d q (ruleFires p l k y ws)) x;
-      places = λ l. f .places l ∙ ap (λ (y : List ℕ). runCur q (ruleFires p l k y ws)) x;
+      bytes = λ l. f .bytes l ∙ ap (runBuf d q) (told l);
+      places = λ l. f .places l ∙ ap (runCur q) (told l);
     }
+  where
+    told : (l : ℕ) → ruleFires p l k (r .components) ws ≡ ruleFires p l k (headingBy r .components) ws
+    told l =
+        first-components p l k (r .components) ws
+        ∙ ap (λ (y : List ℕ). ruleFires p l k y ws) (ap (λ (i : ℕ). take i (r .components)) e ∙ sym (components-are r w))

@@ -6,7 +6,7 @@ use mathlib.Core.Bool.{Bool, true, false, cond}
 use lib.ListN.{length, drop, getD}
 use Rattle.text.specs.Bytes.{Text, Words, part, concatMap}
 use Rattle.text.specs.Lines.{Line}
-use Rattle.text.specs.Reading.{left, ahead, follow, FoundWord, Passed, Opens}
+use Rattle.text.specs.Reading.{left, ahead, follow, FoundWord, Opens}
 use Rattle.profile.specs.Profile.{Profile}
 use Rattle.rules.specs.declared.Progress.{Progress}
 use Rattle.rules.specs.Words.{hasDollar}
@@ -16,8 +16,8 @@ use Rattle.rules.specs.Faults.{Groups}
 use Rattle.rules.specs.declared.Present.{Present}
 use Rattle.rules.specs.Checking.{presentOf, checkFrom, Onward}
 use Rattle.firing.specs.declared.Cursors.{Cursors}
+use Rattle.firing.specs.declared.RuleRun.{RuleRun}
 use Rattle.resolver.specs.declared.Walk.{Walk}
-use Rattle.resolver.specs.declared.RuleRun.{RuleRun}
 use Rattle.resolver.specs.declared.HeadingAt.{HeadingAt}
 use Rattle.resolver.specs.declared.FirstWord.{FirstWord}
 use Rattle.answers.specs.Matching.{members}
@@ -71,13 +71,6 @@ pub record FiredFile (p : Profile) (s d d′ : Text) (at at′ : List ℕ) : Typ
   pub bytes : d′ ≡ runBuf d (startingAt at) (fileFirings s p)
   pub places : at′ ≡ runCur (startingAt at) (fileFirings s p) .at
 
--- A rule's line from its `=` on, which stands behind `from` in the physical line n, fired at the layout k for the components cs; the next line is where the
--- line ends.
-pub record FiredLine (p : Profile) (cs : List ℕ) (s : Text) (from n : ℕ) (d d′ : Text) (q : Cursors) (k : ℕ) (r : RuleRun) : Type 0 where
-  pub told : r .fired ≡ true
-  pub fires : FiredRule p d d′ q (r .cursors) k cs (drop 1 (left s from))
-  pub passed : Passed s from n (r .at) (r .line)
-
 -- what the rules from a line on fire at the layout k: what one rule does, with the words ws, and where every matching rule fires what the lines ls do
 abbrev pub FiresThen : Profile → Groups → Heading → ℕ → List Line → ℕ → Words → List Line → Type 0
 FiresThen p gs h k ls₀ n ws ls =
@@ -111,6 +104,7 @@ pub record RanRule (p : Profile) (gs : Groups) (h : Heading) (k : ℕ) (ns : Lis
   pub high : r .at ≤ length s
   pub few : r .line ≤ r .at + 1
 
+-- the next rule that matches, fired; or none does, and nothing was written
 pub record RanNext (p : Profile) (gs : Groups) (h : Heading) (k : ℕ) (ns : List Text) (s : Text) (at n : ℕ) (d d′ : Text) (q : Cursors) (r : RuleRun) : Type 0 where
   pub none : r .fired ≡ false → ((every : Bool) → setFires every (members gs) p h k (rulesFrom (follow s at n)) ≡ []) × (d′ ≡ d) × (r .cursors ≡ q)
   pub rule : r .fired ≡ true → RanRule p gs h k ns s at n d d′ q r

@@ -10,14 +10,6 @@ pub struct Walk {
     pub cursors: firing::Cursors,
 }
 
-// A rule's line that was run: whether it fired, where the next line starts, its number, and what was written.
-pub struct RuleRun {
-    pub fired: bool,
-    pub at: usize,
-    pub line: usize,
-    pub cursors: firing::Cursors,
-}
-
 // The next heading: whether there is one, where its line starts and that line's number; where its words begin, and the physical line that they begin in.
 pub struct HeadingAt {
     pub found: bool,

@@ -16,6 +16,7 @@ use super::ListedAnswer;
 use super::walking::walk;
 use answers::Outcome;
 use firing::Cursors;
+use firing::LONGEST_TOTAL;
 use firing::stage::REGIONS;
 use firing::stage::copy_texts;
 use firing::stage::in_regions;
@@ -49,7 +50,7 @@ fn no_room(room: usize, total: u32) -> bool
     if room < total as usize {
         return true;
     }
-    1048576 < total
+    LONGEST_TOTAL < total
 }
 
 // All that an accepted file fires for an accepted profile, written from ten positions on: the positions after it.

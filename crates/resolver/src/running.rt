@@ -6,7 +6,7 @@ ghost use Prim.Native.Nat.{_+_, _-_, _≤_, _<_};
 ghost use lib.ListN.{length, getD};
 ghost use Rattle.text.specs.Limits.{mostOptions};
 ghost use Rattle.text.specs.Bytes.{anyOf};
-ghost use Rattle.text.specs.Reading.{Table, Fenced, Within, left, follow};
+ghost use Rattle.text.specs.Reading.{Table, Fenced, follow};
 ghost use Rattle.output.specs.Store.{farthest};
 ghost use Rattle.profile.specs.Profile.{fields, optionsOf, textsOf, profileOf};
 ghost use Rattle.profile.specs.Listing.{Listed};
@@ -16,13 +16,13 @@ ghost use Rattle.rules.specs.Checking.{presentOf, checkFrom};
 ghost use Rattle.values.specs.Filling.{Short};
 ghost use Rattle.matching.specs.Groups.{groupsAt, Rowed};
 ghost use Rattle.answers.specs.Layouts.{perLayout};
-ghost use Rattle.firing.specs.Writing.{Low, ShortWords};
+ghost use Rattle.firing.specs.Writing.{Low};
 ghost use Rattle.matching.specs.Held.{headingBy, SetSized};
-ghost use Rattle.resolver.specs.Running.{FiredLine, NextRule, RanNext, FiredSet, FiredRange, FiredHeading};
+ghost use Rattle.resolver.specs.Running.{NextRule, RanNext, FiredSet, FiredRange, FiredHeading};
 ghost use Rattle.matching.specs.Ranges.{FromOne};
-use super::RuleRun;
 use firing::Cursors;
-use firing::rule::fire_rule;
+use firing::RuleRun;
+use firing::rule::fire_line;
 use matching::LeftWord;
 use matching::columns::left_word;
 use matching::ranges::has_options;
@@ -31,65 +31,9 @@ use profile::fields::LAYOUTS;
 use profile::fields::VARIANTS;
 use profile::fields::field_at;
 use rules::SetHeading;
-use rules::check::fence_behind;
-use rules::lines::split_line;
 use text::reader::open_line;
 use text::reader::pass_line;
 use values::fill::place;
-
-// A rule whose left words match, its line from behind them on: its right words fire at the layout k.
-fn fire_line(
-    s: &[u8],
-    t: &[u8; 512],
-    fence: usize,
-    places: &mut [usize],
-    from: usize,
-    line: usize,
-    h: SetHeading,
-    model: &[u8],
-    layouts: &[u8],
-    variants: &[u8],
-    bounds: &[usize; 16],
-    n: usize,
-    k: usize,
-    scratch: &mut [u8],
-    buf: &mut [u8],
-    q: Cursors,
-) -> RuleRun
-    requires { ⌜ Within (now s) (now t) fence from line × (length (now places) ≡ 20) × SetSized h
-        × (length (left (now s) from) ≡ 1 + h .right) × ShortWords (left (now s) from)
-        × (n ≡ length (fields (now layouts))) × (1 ≤ n) × (n < 10) × (k < 100) × Short (now model) (now layouts) (now variants)
-        × (8192 ≤ length (now scratch)) × (length (now scratch) ≤ farthest) × (length (now buf) ≤ farthest) × Low (q .at)
-        × Bounds (now layouts) (now variants) (now bounds) ⌝ }
-    ensures { λ r. ⌜ FiredLine (profileOf (textsOf (now (model .entry)) (now (layouts .entry)) (now (variants .entry)) [])) (headingBy h .components)
-        (now (s .entry)) from line (now (buf .entry)) (now (buf .exit)) q k r ⌝ }
-{
-    let components = h.components;
-    let w = &s[from..];
-    let l = split_line(false, w, t, fence_behind(fence, from), places);
-    let cursors = fire_rule(
-        w,
-        places,
-        1,
-        l.tally.count,
-        components,
-        model,
-        layouts,
-        variants,
-        bounds,
-        n,
-        k,
-        scratch,
-        buf,
-        q,
-    );
-    RuleRun {
-        fired: true,
-        at: from + l.next,
-        line: line + l.line,
-        cursors,
-    }
-}
 
 // No word of a line is read yet.
 fn unread(at: usize, line: usize) -> LeftWord
@@ -196,7 +140,6 @@ fn run_rule(
     s: &[u8],
     t: &[u8; 512],
     fence: usize,
-    places: &mut [usize],
     names: &[usize; 256],
     rows: &[bool; 640],
     groups: usize,
@@ -218,7 +161,7 @@ fn run_rule(
     buf: &mut [u8],
     q: Cursors,
 ) -> RuleRun
-    requires { ⌜ Table (now t) × Fenced (now s) fence × (length (now places) ≡ 20) × Named (now s) (now names) groups
+    requires { ⌜ Table (now t) × Fenced (now s) fence × Named (now s) (now names) groups
         × Rowed (profileOf (textsOf (now model) (now layouts) (now variants) (now options))) (now s) (now names) (now rows) groups
         × SetSized h × Listed (now options) (now table) listed × (length (optionsOf (now options)) ≤ mostOptions)
         × (n ≡ length (fields (now layouts))) × (1 ≤ n) × (n < 10) × (k ≤ 4) × (anyOf perLayout (headingBy h .columns) ≡ true → 1 ≤ k)
@@ -255,14 +198,14 @@ fn run_rule(
     if !x.matched {
         return none_left(x, q);
     }
+    let components = h.components;
     fire_line(
         s,
         t,
         fence,
-        places,
         x.at,
         x.line,
-        h,
+        components,
         model,
         layouts,
         variants,
@@ -280,7 +223,6 @@ pub fn run_set(
     s: &[u8],
     t: &[u8; 512],
     fence: usize,
-    places: &mut [usize],
     names: &[usize; 256],
     rows: &[bool; 640],
     groups: usize,
@@ -301,7 +243,7 @@ pub fn run_set(
     buf: &mut [u8],
     q: Cursors,
 ) -> Cursors
-    requires { ⌜ Table (now t) × Fenced (now s) fence × (length (now places) ≡ 20) × Named (now s) (now names) groups
+    requires { ⌜ Table (now t) × Fenced (now s) fence × Named (now s) (now names) groups
         × Rowed (profileOf (textsOf (now model) (now layouts) (now variants) (now options))) (now s) (now names) (now rows) groups
         × SetSized h × Listed (now options) (now table) listed × (length (optionsOf (now options)) ≤ mostOptions)
         × (n ≡ length (fields (now layouts))) × (1 ≤ n) × (n < 10) × (k ≤ 4) × (anyOf perLayout (headingBy h .columns) ≡ true → 1 ≤ k)
@@ -323,7 +265,6 @@ pub fn run_set(
             s,
             t,
             fence,
-            places,
             names,
             rows,
             groups,
@@ -359,7 +300,6 @@ pub fn run_layouts(
     s: &[u8],
     t: &[u8; 512],
     fence: usize,
-    places: &mut [usize],
     names: &[usize; 256],
     rows: &[bool; 640],
     groups: usize,
@@ -381,7 +321,7 @@ pub fn run_layouts(
     buf: &mut [u8],
     q: Cursors,
 ) -> Cursors
-    requires { ⌜ Table (now t) × Fenced (now s) fence × (length (now places) ≡ 20) × Named (now s) (now names) groups
+    requires { ⌜ Table (now t) × Fenced (now s) fence × Named (now s) (now names) groups
         × Rowed (profileOf (textsOf (now model) (now layouts) (now variants) (now options))) (now s) (now names) (now rows) groups
         × SetSized h × Listed (now options) (now table) listed × (length (optionsOf (now options)) ≤ mostOptions)
         × (n ≡ length (fields (now layouts))) × (1 ≤ n) × (n < 10) × (first + count ≤ 5) × (anyOf perLayout (headingBy h .columns) ≡ true → 1 ≤ first)
@@ -400,7 +340,6 @@ pub fn run_layouts(
             s,
             t,
             fence,
-            places,
             names,
             rows,
             groups,
@@ -431,7 +370,6 @@ pub fn run_heading(
     s: &[u8],
     t: &[u8; 512],
     fence: usize,
-    places: &mut [usize],
     names: &[usize; 256],
     rows: &[bool; 640],
     groups: usize,
@@ -450,7 +388,7 @@ pub fn run_heading(
     buf: &mut [u8],
     q: Cursors,
 ) -> Cursors
-    requires { ⌜ Table (now t) × Fenced (now s) fence × (length (now places) ≡ 20) × Named (now s) (now names) groups
+    requires { ⌜ Table (now t) × Fenced (now s) fence × Named (now s) (now names) groups
         × Rowed (profileOf (textsOf (now model) (now layouts) (now variants) (now options))) (now s) (now names) (now rows) groups
         × SetSized h × FromOne (h .index) × Listed (now options) (now table) listed × (length (optionsOf (now options)) ≤ mostOptions)
         × (n ≡ length (fields (now layouts))) × (1 ≤ n) × (n ≤ 4)
@@ -471,7 +409,6 @@ pub fn run_heading(
         s,
         t,
         fence,
-        places,
         names,
         rows,
         groups,

@@ -157,7 +157,6 @@ fn walk_set(
         s,
         t,
         fence,
-        places,
         names,
         rows,
         groups,

@@ -7,7 +7,6 @@ use borrow.Author.Tests.{ne-eqb, eqb-true, eqb-false, ltb-false}
 use lib.Dec.{eqb, ltb}
 use Rattle.text.specs.declared.Class.the-variants.{Blank, Join, Slashes, Bang, Other}
 use Rattle.text.specs.declared.Place.the-variants.{Space, Word}
-use Rattle.text.specs.declared.Fast.the-variants as fast
 use Rattle.text.specs.Marks.{classOf, char, join, atOther}
 use Rattle.text.specs.Words.{badByte}
 use Rattle.text.specs.Reading.{wordly, inWord, kindOf, beginsPlain}

@@ -1,10 +1,10 @@
 -- Laws of tests and lists that the crates above share.
-use Prim.Native.Nat.{ℕ}
+use Prim.Native.Nat.{ℕ, zero, suc}
 use native.Mathlib.Omega.{arith}
 use mathlib.Core.Path.{_≡_, refl, sym, ap, _∙_}
 use mathlib.Core.List.{List, [], _∷_, _++_, map, append-assoc}
 use mathlib.Core.Bool.{Bool, true, false, _||_, _&&_, cond}
-use lib.ListN.{length}
+use lib.ListN.{length, drop}
 use lib.Dec.{eqb}
 use borrow.Author.Tests.{eqb-true, eq-eqb}
 use Rattle.text.specs.Bytes.{Text, same, empty, rest, allOf, anyOf, concatMap, among}
@@ -123,6 +123,12 @@ found-in q x (y ∷ b) e h =
     or-cases (same x y) (anyOf (same x) b) h
     (λ s. let z : q y ≡ true = sym (ap q (same-eq x y s)) ∙ e in rw z)
     (λ s. or-right (q y) (anyOf q b) (found-in q x b e s))
+
+pub any-drop {ℓ} : {A : Type ℓ} (q : A → Bool) (k : ℕ) (xs : List A) → anyOf q xs ≡ false → anyOf q (drop k xs) ≡ false
+unfolding anyOf
+any-drop q zero xs h = h
+any-drop q (suc k) [] h = refl
+any-drop q (suc k) (x ∷ xs) h = any-drop q k xs (neither (q x) (anyOf q xs) h .1)
 
 pub any-among : (q : Text → Bool) (a b : List Text) → among a b ≡ true → anyOf q a ≡ true → anyOf q b ≡ true
 unfolding among allOf anyOf

@@ -14,7 +14,6 @@ use Rattle.text.specs.declared.Class.{Class}
 use Rattle.text.specs.declared.Class.the-variants.{Blank, Join, Slashes, Bang, Other}
 use Rattle.text.specs.declared.Place.{Place}
 use Rattle.text.specs.declared.Place.the-variants.{Space, Word, Comment}
-use Rattle.text.specs.declared.Fast.the-variants as fast
 use Rattle.text.specs.Bytes.{first, part, anyOf}
 use Rattle.text.specs.Marks.{classOf, Mark, char, gap, join, bang, end, atFeed, atOther, step, marks}
 use Rattle.text.specs.Lines.{run, words, feeds, inside, linesOf, lines}

@@ -4,7 +4,6 @@ use Rattle.firing.proofs.ValueFires.{value-fired}
 use Rattle.firing.proofs.rule.fire_value.Statement.{statement}
 use Rattle.firing.proofs.rule.fire_value.Tie as tie
 use Rattle.firing.proofs.rule.fire_value.Reads as reads
-use Rattle.firing.proofs.rule.fire_value.Lts as lts
 use Rattle.firing.proofs.writing.fire.Reads as fire-reads
 use Rattle.values.proofs.fill.fill_value.Reads as fill-value-reads
 

@@ -11,7 +11,6 @@ use Rattle.firing.proofs.Beginnings.{none-spread, some-spread, sign-spr
 use Rattle.firing.proofs.writing.fire.Statement.{statement}
 use Rattle.firing.proofs.writing.fire.Tie as tie
 use Rattle.firing.proofs.writing.fire.Reads as reads
-use Rattle.firing.proofs.writing.fire.Lts as lts
 use Rattle.firing.proofs.writing.region.Reads as region-reads
 use Rattle.values.proofs.spread.is_signed.Reads as is-signed-reads
 use Rattle.values.proofs.spread.put_spread.Reads as put-spread-reads

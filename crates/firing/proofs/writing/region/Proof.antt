@@ -2,7 +2,6 @@ use borrow.Author.Needs.{needs}
 use Rattle.firing.proofs.writing.region.Statement.{statement}
 use Rattle.firing.proofs.writing.region.Tie as tie
 use Rattle.firing.proofs.writing.region.Reads as reads
-use Rattle.firing.proofs.writing.region.Lts as lts
 
 mul-result : tie.Need-mul-result
 mul-result c = search needs

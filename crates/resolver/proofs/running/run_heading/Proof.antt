@@ -1,4 +1,3 @@
-use borrow.Author.Needs.{needs}
 use Prim.Native.Nat.{_-_}
 use native.Mathlib.Omega.{arith}
 use Rattle.resolver.proofs.HeadingRuns.{heading-none, heading-run, range-low, range-first}
@@ -13,13 +12,13 @@ layout-range-requires : tie.Need-layout-range-requires
 layout-range-requires c κs = search needs
 
 returns : tie.Need-returns
-returns c = heading-none _ _ _ _ _ (c .before .before .before .before .before .before .before .before .before .before .before .pre .9) _ (c .before .before .layout-range .ensures) _ _ (c .if1 .taken)
+returns c = heading-none _ _ _ _ _ (c .before .before .before .before .before .before .before .before .before .before .pre .8) _ (c .before .before .layout-range .ensures) _ _ (c .if1 .taken)
 
 has-options-requires : tie.Need-has-options-requires
 has-options-requires c κs = search needs
 
 run-layouts-requires : tie.Need-run-layouts-requires
-run-layouts-requires c κs = (c .before .before .before .before .before .before .before .before .before .before .before .before .before .before .before .pre .0, c .before .before .before .before .before .before .before .before .before .before .before .before .before .before .before .pre .1, c .before .before .before .before .before .before .before .before .before .before .before .before .before .before .before .pre .2, c .before .before .before .before .before .before .before .before .before .before .before .before .before .before .before .pre .3, c .before .before .before .before .before .before .before .before .before .before .before .before .before .before .before .pre .4, c .before .before .before .before .before .before .before .before .before .before .before .before .before .before .before .pre .5, c .before .before .before .before .before .before .before .before .before .before .before .before .before .before .before .pre .7, c .before .before .before .before .before .before .before .before .before .before .before .before .before .before .before .pre .8, c .before .before .before .before .before .before .before .before .before .before .before .before .before .before .before .pre .9, c .before .before .before .before .before .before .before .before .before .before .before .before .before .before .before .pre .10, omega (arith, c .before .before .before .before .before .before .before .before .before .before .before .before .before .before .before .pre .11), range-low _ _ _ (c .before .before .before .before .before .before .layout-range .ensures) (c .before .before .before .before .before .before .before .before .before .before .before .before .before .before .before .pre .6) (c .before .before .before .before .before .before .before .before .before .before .before .before .before .before .before .pre .10) (c .before .before .before .before .before .before .before .before .before .before .before .before .before .before .before .pre .11) (omega (arith, c .before .before .before .before .if1 .left)), range-first _ _ _ (c .before .before .before .before .before .before .layout-range .ensures) (c .before .before .before .before .before .before .before .before .before .before .before .before .before .before .before .pre .6) (c .before .before .before .before .before .before .before .before .before .before .before .before .before .before .before .pre .10) (c .before .before .before .before .before .before .before .before .before .before .before .before .before .before .before .pre .11) (omega (arith, c .before .before .before .before .if1 .left)), c .before .before .before .before .before .before .before .before .before .before .before .before .before .before .before .pre .12, c .before .before .before .before .before .before .before .before .before .before .before .before .before .before .before .pre .13, c .before .before .before .before .before .before .before .before .before .before .before .before .before .before .before .pre .14, c .before .before .before .before .before .before .before .before .before .before .before .before .before .before .before .pre .15, c .before .before .before .before .before .before .before .before .before .before .before .before .before .before .before .pre .16, c .before .before .before .before .before .before .before .before .before .before .before .before .before .before .before .pre .17, c .before .before .before .before .before .before .before .before .before .before .before .before .before .before .before .pre .18, c .before .before .before .before .before .before .before .before .before .before .before .before .before .before .before .pre .19, c .before .before .before .before .before .before .before .before .before .before .before .before .before .before .before .pre .20)
+run-layouts-requires c κs = (c .before .before .before .before .before .before .before .before .before .before .before .before .before .pre .0, c .before .before .before .before .before .before .before .before .before .before .before .before .before .pre .1, c .before .before .before .before .before .before .before .before .before .before .before .before .before .pre .2, c .before .before .before .before .before .before .before .before .before .before .before .before .before .pre .3, c .before .before .before .before .before .before .before .before .before .before .before .before .before .pre .4, c .before .before .before .before .before .before .before .before .before .before .before .before .before .pre .6, c .before .before .before .before .before .before .before .before .before .before .before .before .before .pre .7, c .before .before .before .before .before .before .before .before .before .before .before .before .before .pre .8, c .before .before .before .before .before .before .before .before .before .before .before .before .before .pre .9, omega (arith, c .before .before .before .before .before .before .before .before .before .before .before .before .before .pre .10), range-low _ _ _ (c .before .before .before .before .before .layout-range .ensures) (c .before .before .before .before .before .before .before .before .before .before .before .before .before .pre .5) (c .before .before .before .before .before .before .before .before .before .before .before .before .before .pre .9) (c .before .before .before .before .before .before .before .before .before .before .before .before .before .pre .10) (omega (arith, c .before .before .before .if1 .left)), range-first _ _ _ (c .before .before .before .before .before .layout-range .ensures) (c .before .before .before .before .before .before .before .before .before .before .before .before .before .pre .5) (c .before .before .before .before .before .before .before .before .before .before .before .before .before .pre .9) (c .before .before .before .before .before .before .before .before .before .before .before .before .before .pre .10) (omega (arith, c .before .before .before .if1 .left)), c .before .before .before .before .before .before .before .before .before .before .before .before .before .pre .11, c .before .before .before .before .before .before .before .before .before .before .before .before .before .pre .12, c .before .before .before .before .before .before .before .before .before .before .before .before .before .pre .13, c .before .before .before .before .before .before .before .before .before .before .before .before .before .pre .14, c .before .before .before .before .before .before .before .before .before .before .before .before .before .pre .15, c .before .before .before .before .before .before .before .before .before .before .before .before .before .pre .16, c .before .before .before .before .before .before .before .before .before .before .before .before .before .pre .17, c .before .before .before .before .before .before .before .before .before .before .before .before .before .pre .18, c .before .before .before .before .before .before .before .before .before .before .before .before .before .pre .19)
 
 same-length : tie.Need-same-length
 same-length c = search needs
@@ -27,11 +26,8 @@ same-length c = search needs
 same-length-2 : tie.Need-same-length-2
 same-length-2 c = search needs
 
-same-length-3 : tie.Need-same-length-3
-same-length-3 c = search needs
-
 returns-2 : tie.Need-returns-2
-returns-2 c = heading-run _ _ _ _ _ (c .before .before .before .before .before .before .before .before .before .before .before .before .before .before .before .before .before .before .before .before .before .before .pre .9) _ (c .before .before .before .before .before .before .before .before .before .before .before .before .before .layout-range .ensures) _ _ _ _ _ (c .before .before .before .before .before .before .before .before .before .before .has-options .ensures) (c .before .before .before .before .before .before .run-layouts .ensures)
+returns-2 c = heading-run _ _ _ _ _ (c .before .before .before .before .before .before .before .before .before .before .before .before .before .before .before .before .before .before .pre .8) _ (c .before .before .before .before .before .before .before .before .before .before .layout-range .ensures) _ _ _ _ _ (c .before .before .before .before .before .before .before .has-options .ensures) (c .before .before .before .before .run-layouts .ensures)
 
 pub run-heading-spec : {M : Type 1} → statement M
 run-heading-spec =
@@ -43,5 +39,4 @@ run-heading-spec =
     run-layouts-requires
     same-length
     same-length-2
-    same-length-3
     returns-2)

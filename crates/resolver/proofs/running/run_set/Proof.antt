@@ -19,11 +19,11 @@ use Rattle.resolver.proofs.running.run_rule.Reads as run-rule-reads
 use Rattle.values.proofs.fill.place.Reads as place-reads
 
 abbrev Inv-loop : tie.InvT-loop
-Inv-loop s t fence places₀ names rows groups h every model layouts variants bounds options table listed n k start number scratch₀ buf₀ layout variant m₀ at₀ line₀ places scratch buf m at line =
-    SetGoing s (profileOf (textsOf model layouts variants options)) (groupsAt s names groups) (headingBy h) every k (namesAt s names groups) buf₀ m₀ (follow s start number) buf m at line × (length places ≡ 20) × (length scratch ≡ length scratch₀) × (length buf ≡ length buf₀)
+Inv-loop s t fence names rows groups h every model layouts variants bounds options table listed n k start number scratch₀ buf₀ layout variant m₀ at₀ line₀ scratch buf m at line =
+    SetGoing s (profileOf (textsOf model layouts variants options)) (groupsAt s names groups) (headingBy h) every k (namesAt s names groups) buf₀ m₀ (follow s start number) buf m at line × (length scratch ≡ length scratch₀) × (length buf ≡ length buf₀)
 
 abbrev μ-loop : tie.MeasureT-loop
-μ-loop s t fence places₀ names rows groups h every model layouts variants bounds options table listed n k start number scratch₀ buf₀ layout variant m₀ at₀ line₀ places scratch buf m at line =
+μ-loop s t fence names rows groups h every model layouts variants bounds options table listed n k start number scratch₀ buf₀ layout variant m₀ at₀ line₀ scratch buf m at line =
     length s - at
 
 place-requires : tie.Need-place-requires Inv-loop μ-loop
@@ -39,28 +39,25 @@ field-at-requires-2 : tie.Need-field-at-requires-2 Inv-loop μ-loop
 field-at-requires-2 c κs = search needs
 
 loop-holds : tie.Need-loop-holds Inv-loop μ-loop
-loop-holds c = (set-start _ _ _ _ _ _ _ _ _ _ _ (c .before .before .before .before .before .before .before .before .before .before .before .before .pre .18) (c .before .before .before .before .before .before .before .before .before .before .before .before .pre .19) (c .before .before .before .before .before .before .before .before .before .before .before .before .pre .20) (c .before .before .before .before .before .before .before .before .before .before .before .before .pre .17), c .before .before .before .before .before .before .before .before .before .before .before .before .pre .2, refl, refl)
+loop-holds c = (set-start _ _ _ _ _ _ _ _ _ _ _ (c .before .before .before .before .before .before .before .before .before .before .before .pre .17) (c .before .before .before .before .before .before .before .before .before .before .before .pre .18) (c .before .before .before .before .before .before .before .before .before .before .before .pre .19) (c .before .before .before .before .before .before .before .before .before .before .before .pre .16), refl, refl)
 
 run-rule-requires : tie.Need-run-rule-requires Inv-loop μ-loop
-run-rule-requires c κs = (c .before .before .before .before .before .before .before .before .before .before .before .before .before .before .before .before .pre .0, c .before .before .before .before .before .before .before .before .before .before .before .before .before .before .before .before .pre .1, c .before .before .before .loop .inv .1, c .before .before .before .before .before .before .before .before .before .before .before .before .before .before .before .before .pre .3, c .before .before .before .before .before .before .before .before .before .before .before .before .before .before .before .before .pre .4, c .before .before .before .before .before .before .before .before .before .before .before .before .before .before .before .before .pre .5, c .before .before .before .before .before .before .before .before .before .before .before .before .before .before .before .before .pre .6, c .before .before .before .before .before .before .before .before .before .before .before .before .before .before .before .before .pre .7, c .before .before .before .before .before .before .before .before .before .before .before .before .before .before .before .before .pre .8, c .before .before .before .before .before .before .before .before .before .before .before .before .before .before .before .before .pre .9, c .before .before .before .before .before .before .before .before .before .before .before .before .before .before .before .before .pre .10, c .before .before .before .before .before .before .before .before .before .before .before .before .before .before .before .before .pre .11, c .before .before .before .before .before .before .before .before .before .before .before .before .before .before .before .before .pre .12, kth (fields (c .before .before .before .before .before .before .before .before .before .before .before .before .before .before .before .before .args .layouts .now)) _ _ (c .before .before .before .before .before .before .before .before .before .before .before .before .before .before .before .before .args .k) (c .before .before .before .before .before .before .field-at .ensures) (c .before .before .before .before .before .before .before .place .ensures), kth (fields (c .before .before .before .before .before .before .before .before .before .before .before .before .before .before .before .before .args .variants .now)) _ _ (c .before .before .before .before .before .before .before .before .before .before .before .before .before .before .before .before .args .k) (c .before .before .before .before .field-at2 .ensures) (c .before .before .before .before .before .place2 .ensures), c .before .before .before .before .before .before .before .before .before .before .before .before .before .before .before .before .pre .13, omega (arith, c .before .before .before .loop .inv .2, c .before .before .before .before .before .before .before .before .before .before .before .before .before .before .before .before .pre .14), omega (arith, c .before .before .before .loop .inv .2, c .before .before .before .before .before .before .before .before .before .before .before .before .before .before .before .before .pre .15), omega (arith, c .before .before .before .loop .inv .3, c .before .before .before .before .before .before .before .before .before .before .before .before .before .before .before .before .pre .16), c .before .before .before .loop .inv .0 .going .low, c .before .before .before .loop .inv .0 .high, c .before .before .before .loop .inv .0 .few, c .before .before .before .loop .inv .0 .clean, c .before .before .before .before .before .before .before .before .before .before .before .before .before .before .before .before .pre .21)
+run-rule-requires c κs = (c .before .before .before .before .before .before .before .before .before .before .before .before .before .before .pre .0, c .before .before .before .before .before .before .before .before .before .before .before .before .before .before .pre .1, c .before .before .before .before .before .before .before .before .before .before .before .before .before .before .pre .2, c .before .before .before .before .before .before .before .before .before .before .before .before .before .before .pre .3, c .before .before .before .before .before .before .before .before .before .before .before .before .before .before .pre .4, c .before .before .before .before .before .before .before .before .before .before .before .before .before .before .pre .5, c .before .before .before .before .before .before .before .before .before .before .before .before .before .before .pre .6, c .before .before .before .before .before .before .before .before .before .before .before .before .before .before .pre .7, c .before .before .before .before .before .before .before .before .before .before .before .before .before .before .pre .8, c .before .before .before .before .before .before .before .before .before .before .before .before .before .before .pre .9, c .before .before .before .before .before .before .before .before .before .before .before .before .before .before .pre .10, c .before .before .before .before .before .before .before .before .before .before .before .before .before .before .pre .11, kth (fields (c .before .before .before .before .before .before .before .before .before .before .before .before .before .before .args .layouts .now)) _ _ (c .before .before .before .before .before .before .before .before .before .before .before .before .before .before .args .k) (c .before .before .before .before .before .field-at .ensures) (c .before .before .before .before .before .before .place .ensures), kth (fields (c .before .before .before .before .before .before .before .before .before .before .before .before .before .before .args .variants .now)) _ _ (c .before .before .before .before .before .before .before .before .before .before .before .before .before .before .args .k) (c .before .before .before .field-at2 .ensures) (c .before .before .before .before .place2 .ensures), c .before .before .before .before .before .before .before .before .before .before .before .before .before .before .pre .12, omega (arith, c .before .before .loop .inv .1, c .before .before .before .before .before .before .before .before .before .before .before .before .before .before .pre .13), omega (arith, c .before .before .loop .inv .1, c .before .before .before .before .before .before .before .before .before .before .before .before .before .before .pre .14), omega (arith, c .before .before .loop .inv .2, c .before .before .before .before .before .before .before .before .before .before .before .before .before .before .pre .15), c .before .before .loop .inv .0 .going .low, c .before .before .loop .inv .0 .high, c .before .before .loop .inv .0 .few, c .before .before .loop .inv .0 .clean, c .before .before .before .before .before .before .before .before .before .before .before .before .before .before .pre .20)
 
 same-length : tie.Need-same-length Inv-loop μ-loop
-same-length c = c .before .before .before .before .before .before .before .before .before .run-rule .kept .1 .1 .1 .0 ∙ (c .before .before .before .before .before .before .before .before .before .before .before .before .before .loop .inv .1 ∙ sym (c .before .before .before .before .before .before .before .before .before .before .before .before .before .before .before .before .before .before .before .before .before .before .before .before .before .before .pre .2))
+same-length c = c .before .before .before .before .before .before .before .run-rule .kept .1 .1 .1 .1 .1 .1 .1 .1 .1 .1 .1 .1 .1 .1 .1 .1 .1 .1 .1 .1 .0 ∙ c .before .before .before .before .before .before .before .before .before .before .loop .inv .1
 
 same-length-2 : tie.Need-same-length-2 Inv-loop μ-loop
-same-length-2 c = c .before .before .before .before .before .before .before .before .before .run-rule .kept .1 .1 .1 .1 .1 .1 .1 .1 .1 .1 .1 .1 .1 .1 .1 .1 .1 .1 .1 .1 .1 .0 ∙ c .before .before .before .before .before .before .before .before .before .before .before .before .before .loop .inv .2
-
-same-length-3 : tie.Need-same-length-3 Inv-loop μ-loop
-same-length-3 c = c .before .before .before .before .before .before .before .before .before .run-rule .kept .1 .1 .1 .1 .1 .1 .1 .1 .1 .1 .1 .1 .1 .1 .1 .1 .1 .1 .1 .1 .1 .1 .0 ∙ c .before .before .before .before .before .before .before .before .before .before .before .before .before .loop .inv .3
+same-length-2 c = c .before .before .before .before .before .before .before .run-rule .kept .1 .1 .1 .1 .1 .1 .1 .1 .1 .1 .1 .1 .1 .1 .1 .1 .1 .1 .1 .1 .1 .0 ∙ c .before .before .before .before .before .before .before .before .before .before .loop .inv .2
 
 returns : tie.Need-returns Inv-loop μ-loop
-returns c = set-last _ _ _ _ _ _ _ _ _ _ _ _ _ _ (c .before .before .before .before .before .before .before .before .before .before .before .before .before .loop .inv .0) _ _ (c .before .before .before .before .before .before .before .before .before .run-rule .ensures) (⊎-elim (λ w e. absurd (no (sym (not-true _ (w .taken)) ∙ e))) (λ w e. not-true _ (w .1 .taken)) (c .if1 .came))
+returns c = set-last _ _ _ _ _ _ _ _ _ _ _ _ _ _ (c .before .before .before .before .before .before .before .before .before .before .loop .inv .0) _ _ (c .before .before .before .before .before .before .before .run-rule .ensures) (⊎-elim (λ w e. absurd (no (sym (not-true _ (w .taken)) ∙ e))) (λ w e. not-true _ (w .1 .taken)) (c .if1 .came))
 
 loop-less : tie.Need-loop-less Inv-loop μ-loop
-loop-less c = omega (arith, set-onward _ _ _ _ _ _ _ _ _ _ _ _ _ _ (c .before .before .before .before .before .before .before .before .before .before .before .before .before .before .loop .inv .0) _ _ (c .before .before .before .before .before .before .before .before .before .before .run-rule .ensures) (not-false _ (c .before .if1 .left)), c .before .before .before .before .before .before .before .before .before .before .run-rule .ensures .rule (not-false _ (c .before .if1 .left)) .high)
+loop-less c = omega (arith, set-onward _ _ _ _ _ _ _ _ _ _ _ _ _ _ (c .before .before .before .before .before .before .before .before .before .before .before .loop .inv .0) _ _ (c .before .before .before .before .before .before .before .before .run-rule .ensures) (not-false _ (c .before .if1 .left)), c .before .before .before .before .before .before .before .before .run-rule .ensures .rule (not-false _ (c .before .if1 .left)) .high)
 
 loop-again : tie.Need-loop-again Inv-loop μ-loop
-loop-again c = (set-more _ _ _ _ _ _ _ _ _ _ _ _ _ _ (c .before .before .before .before .before .before .before .before .before .before .before .before .before .before .loop .inv .0) _ _ (c .before .before .before .before .before .before .before .before .before .before .run-rule .ensures) (not-false _ (c .before .if1 .left)) (not-false _ (c .if2 .left)), c .before .before .before .before .before .before .before .before .before .before .run-rule .kept .1 .1 .1 .0 ∙ c .before .before .before .before .before .before .before .before .before .before .before .before .before .before .loop .inv .1, c .before .before .before .before .before .before .before .before .before .before .run-rule .kept .1 .1 .1 .1 .1 .1 .1 .1 .1 .1 .1 .1 .1 .1 .1 .1 .1 .1 .1 .1 .1 .0 ∙ c .before .before .before .before .before .before .before .before .before .before .before .before .before .before .loop .inv .2, c .before .before .before .before .before .before .before .before .before .before .run-rule .kept .1 .1 .1 .1 .1 .1 .1 .1 .1 .1 .1 .1 .1 .1 .1 .1 .1 .1 .1 .1 .1 .1 .0 ∙ c .before .before .before .before .before .before .before .before .before .before .before .before .before .before .loop .inv .3)
+loop-again c = (set-more _ _ _ _ _ _ _ _ _ _ _ _ _ _ (c .before .before .before .before .before .before .before .before .before .before .before .loop .inv .0) _ _ (c .before .before .before .before .before .before .before .before .run-rule .ensures) (not-false _ (c .before .if1 .left)) (not-false _ (c .if2 .left)), c .before .before .before .before .before .before .before .before .run-rule .kept .1 .1 .1 .1 .1 .1 .1 .1 .1 .1 .1 .1 .1 .1 .1 .1 .1 .1 .1 .1 .0 ∙ c .before .before .before .before .before .before .before .before .before .before .before .loop .inv .1, c .before .before .before .before .before .before .before .before .run-rule .kept .1 .1 .1 .1 .1 .1 .1 .1 .1 .1 .1 .1 .1 .1 .1 .1 .1 .1 .1 .1 .1 .0 ∙ c .before .before .before .before .before .before .before .before .before .before .before .loop .inv .2)
 
 pub run-set-spec : {M : Type 1} → statement M
 run-set-spec =
@@ -76,7 +73,6 @@ run-set-spec =
     run-rule-requires
     same-length
     same-length-2
-    same-length-3
     returns
     loop-less
     loop-again)

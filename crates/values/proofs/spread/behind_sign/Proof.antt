@@ -3,7 +3,6 @@ use Rattle.values.proofs.Copying.{sign-inside, behind-first, behind-non
 use Rattle.values.proofs.spread.behind_sign.Statement.{statement}
 use Rattle.values.proofs.spread.behind_sign.Tie as tie
 use Rattle.values.proofs.spread.behind_sign.Reads as reads
-use Rattle.values.proofs.spread.behind_sign.Lts as lts
 use Rattle.values.proofs.spread.is_signed.Reads as is-signed-reads
 
 is-signed-requires : tie.Need-is-signed-requires

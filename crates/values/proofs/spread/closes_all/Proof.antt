@@ -5,7 +5,6 @@ use Rattle.values.proofs.Keeping.{closes-other, closes-sign}
 use Rattle.values.proofs.spread.closes_all.Statement.{statement}
 use Rattle.values.proofs.spread.closes_all.Tie as tie
 use Rattle.values.proofs.spread.closes_all.Reads as reads
-use Rattle.values.proofs.spread.closes_all.Lts as lts
 use Rattle.values.proofs.spread.is_sign.Reads as is-sign-reads
 
 add-if1 : tie.Need-add-if1

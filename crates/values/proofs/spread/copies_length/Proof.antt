@@ -4,7 +4,6 @@ use Rattle.values.proofs.Copying.{few-copies}
 use Rattle.values.proofs.spread.copies_length.Statement.{statement}
 use Rattle.values.proofs.spread.copies_length.Tie as tie
 use Rattle.values.proofs.spread.copies_length.Reads as reads
-use Rattle.values.proofs.spread.copies_length.Lts as lts
 
 sub-result : tie.Need-sub-result
 sub-result c = search needs

@@ -7,7 +7,6 @@ use Rattle.values.proofs.Keeping.{Finding, finding-start, finding-more,
 use Rattle.values.proofs.spread.find_all.Statement.{statement}
 use Rattle.values.proofs.spread.find_all.Tie as tie
 use Rattle.values.proofs.spread.find_all.Reads as reads
-use Rattle.values.proofs.spread.find_all.Lts as lts
 use Rattle.values.proofs.spread.closes_all.Reads as closes-all-reads
 use Rattle.values.proofs.spread.last_all.Reads as last-all-reads
 use Rattle.values.proofs.spread.to_colon.Reads as to-colon-reads

@@ -5,7 +5,6 @@ use Rattle.values.proofs.Keeping.{last-short, last-all, last-other}
 use Rattle.values.proofs.spread.last_all.Statement.{statement}
 use Rattle.values.proofs.spread.last_all.Tie as tie
 use Rattle.values.proofs.spread.last_all.Reads as reads
-use Rattle.values.proofs.spread.last_all.Lts as lts
 use Rattle.text.proofs.compare.same.Reads as same-reads
 
 sub-if1 : tie.Need-sub-if1

@@ -5,7 +5,6 @@ use Rattle.values.proofs.Spreading.{more-zero, more-counted}
 use Rattle.values.proofs.spread.more_length.Statement.{statement}
 use Rattle.values.proofs.spread.more_length.Tie as tie
 use Rattle.values.proofs.spread.more_length.Reads as reads
-use Rattle.values.proofs.spread.more_length.Lts as lts
 use Rattle.values.proofs.spread.behind_sign.Reads as behind-sign-reads
 use Rattle.values.proofs.spread.copies_length.Reads as copies-length-reads
 use Rattle.values.proofs.spread.piece_start.Reads as piece-start-reads

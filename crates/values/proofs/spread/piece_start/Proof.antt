@@ -4,7 +4,6 @@ use Rattle.values.proofs.Keeping.{Backing, backing-start, backing-more,
 use Rattle.values.proofs.spread.piece_start.Statement.{statement}
 use Rattle.values.proofs.spread.piece_start.Tie as tie
 use Rattle.values.proofs.spread.piece_start.Reads as reads
-use Rattle.values.proofs.spread.piece_start.Lts as lts
 use Rattle.values.proofs.spread.is_sign.Reads as is-sign-reads
 
 abbrev Inv-loop : tie.InvT-loop

@@ -6,7 +6,6 @@ use Rattle.values.proofs.Copying.{Copying, copying-start, copying-more,
 use Rattle.values.proofs.spread.put_copies.Statement.{statement}
 use Rattle.values.proofs.spread.put_copies.Tie as tie
 use Rattle.values.proofs.spread.put_copies.Reads as reads
-use Rattle.values.proofs.spread.put_copies.Lts as lts
 use Rattle.values.proofs.spread.put_copy.Reads as put-copy-reads
 
 abbrev Inv-loop : tie.InvT-loop

@@ -3,7 +3,6 @@ use Rattle.values.proofs.Copying.{copy-put}
 use Rattle.values.proofs.spread.put_copy.Statement.{statement}
 use Rattle.values.proofs.spread.put_copy.Tie as tie
 use Rattle.values.proofs.spread.put_copy.Reads as reads
-use Rattle.values.proofs.spread.put_copy.Lts as lts
 use Rattle.values.proofs.spread.put_end.Reads as put-end-reads
 use Rattle.values.proofs.write.put_byte.Reads as put-byte-reads
 use Rattle.values.proofs.write.put_text.Reads as put-text-reads

@@ -4,7 +4,6 @@ use Rattle.values.proofs.Spreading.{first-inside, first-wrote, first-th
 use Rattle.values.proofs.spread.put_first.Statement.{statement}
 use Rattle.values.proofs.spread.put_first.Tie as tie
 use Rattle.values.proofs.spread.put_first.Reads as reads
-use Rattle.values.proofs.spread.put_first.Lts as lts
 use Rattle.output.proofs.copy.Reads as copy-reads
 use Rattle.output.proofs.put_part.Reads as put-part-reads
 use Rattle.output.proofs.wide.Reads as wide-reads

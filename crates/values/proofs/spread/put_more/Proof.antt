@@ -7,7 +7,6 @@ use Rattle.values.proofs.Spreading.{more-nothing, more-wrote, more-writ
 use Rattle.values.proofs.spread.put_more.Statement.{statement}
 use Rattle.values.proofs.spread.put_more.Tie as tie
 use Rattle.values.proofs.spread.put_more.Reads as reads
-use Rattle.values.proofs.spread.put_more.Lts as lts
 use Rattle.output.proofs.wide.Reads as wide-reads
 use Rattle.values.proofs.spread.behind_sign.Reads as behind-sign-reads
 use Rattle.values.proofs.spread.copies_length.Reads as copies-length-reads

@@ -7,7 +7,6 @@ use Rattle.values.proofs.Spreading.{Spreading, spreading-start, spreadi
 use Rattle.values.proofs.spread.put_spread.Statement.{statement}
 use Rattle.values.proofs.spread.put_spread.Tie as tie
 use Rattle.values.proofs.spread.put_spread.Reads as reads
-use Rattle.values.proofs.spread.put_spread.Lts as lts
 use Rattle.output.proofs.past.Reads as past-reads
 use Rattle.output.proofs.put_part.Reads as put-part-reads
 use Rattle.output.proofs.wide.Reads as wide-reads

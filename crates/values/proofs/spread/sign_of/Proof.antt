@@ -3,7 +3,6 @@ use Rattle.values.proofs.Copying.{sign-first, sign-none}
 use Rattle.values.proofs.spread.sign_of.Statement.{statement}
 use Rattle.values.proofs.spread.sign_of.Tie as tie
 use Rattle.values.proofs.spread.sign_of.Reads as reads
-use Rattle.values.proofs.spread.sign_of.Lts as lts
 use Rattle.text.proofs.bytes.peek.Reads as peek-reads
 use Rattle.values.proofs.spread.is_signed.Reads as is-signed-reads
 

@@ -6,7 +6,6 @@ use Rattle.values.proofs.Spreading.{Counting, counting-start, counting-
 use Rattle.values.proofs.spread.spread_length.Statement.{statement}
 use Rattle.values.proofs.spread.spread_length.Tie as tie
 use Rattle.values.proofs.spread.spread_length.Reads as reads
-use Rattle.values.proofs.spread.spread_length.Lts as lts
 use Rattle.values.proofs.spread.find_all.Reads as find-all-reads
 use Rattle.values.proofs.spread.more_length.Reads as more-length-reads
 

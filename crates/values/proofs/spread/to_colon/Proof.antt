@@ -6,7 +6,6 @@ use Rattle.values.proofs.Keeping.{Colonless, plain-start, plain-more, c
 use Rattle.values.proofs.spread.to_colon.Statement.{statement}
 use Rattle.values.proofs.spread.to_colon.Tie as tie
 use Rattle.values.proofs.spread.to_colon.Reads as reads
-use Rattle.values.proofs.spread.to_colon.Lts as lts
 
 abbrev Inv-loop : tie.InvT-loop
 Inv-loop t from i₀ i = Colonless t from i

@@ -5,7 +5,6 @@ use Rattle.values.proofs.Copying.{Storing, storing-start, storing-room,
 use Rattle.values.proofs.spread.write_copies.Statement.{statement}
 use Rattle.values.proofs.spread.write_copies.Tie as tie
 use Rattle.values.proofs.spread.write_copies.Reads as reads
-use Rattle.values.proofs.spread.write_copies.Lts as lts
 use Rattle.values.proofs.spread.write_copy.Reads as write-copy-reads
 
 abbrev Inv-loop : tie.InvT-loop

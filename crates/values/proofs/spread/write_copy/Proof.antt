@@ -6,7 +6,6 @@ use Rattle.values.proofs.Copying.{copy-written, copy-inside, copy-long}
 use Rattle.values.proofs.spread.write_copy.Statement.{statement}
 use Rattle.values.proofs.spread.write_copy.Tie as tie
 use Rattle.values.proofs.spread.write_copy.Reads as reads
-use Rattle.values.proofs.spread.write_copy.Lts as lts
 use Rattle.output.proofs.copy.Reads as copy-reads
 
 slice-write-out : tie.Need-slice-write-out
