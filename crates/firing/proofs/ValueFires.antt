@@ -2,9 +2,9 @@
 use Prim.Native.Nat.{ℕ, zero, suc, _+_, _-_, _≤_, _<_}
 use native.Mathlib.Omega.{arith}
 use native.Mathlib.Numerals.{add-one}
-use mathlib.Core.Path.{_≡_, refl, ap}
+use mathlib.Core.Path.{_≡_, refl, sym, ap, _∙_}
 use mathlib.Core.List.{List, [], _∷_, _++_}
-use mathlib.Core.Bool.{true}
+use mathlib.Core.Bool.{Bool, true, false}
 use lib.ListN.{length, take, drop, getD, length-drop}
 use lib.Seq.{drop-cons}
 use lib.Dec.{ltb}
@@ -16,8 +16,9 @@ use Rattle.text.proofs.Lists.{neither, any-drop}
 use Rattle.text.proofs.Passing.{Passing, passing-start, passing-word, passing-stop, passing-then}
 use Rattle.profile.specs.Profile.{Profile, fields, textsOf, profileOf}
 use Rattle.values.specs.Values.{filled}
-use Rattle.values.specs.Filling.{Filled}
+use Rattle.values.specs.Filling.{Filled, isPercent}
 use Rattle.values.specs.Spread.{cuts, spread, expanded}
+use Rattle.values.proofs.Filling.{filled-plain}
 use Rattle.values.proofs.Profiles.{expanded-by}
 use Rattle.firing.specs.declared.Cursors.{Cursors}
 use Rattle.firing.specs.declared.RuleRun.{RuleRun}
@@ -55,6 +56,12 @@ word-room (w ∷ ws) (suc j) h l = word-room ws j (neither (ltb 256 (length w)) 
 short-rest : (w : Text) (ws : Words) → ShortWords (w ∷ ws) → ShortWords ws
 unfolding anyOf
 short-rest w ws h = neither (tooLong w) (anyOf tooLong ws) h .1
+
+-- a word without percent signs
+pub plain-fired : (m l v : Text) (n k : ℕ) (x : Text) (d d′ : Text) (q q′ : Cursors) (c : ℕ) (b : Bool) → n ≡ length (fields l) → b ≡ anyOf isPercent x → b ≡ false →
+    FiredOne d d′ q q′ c (concatMap (spread n) (cuts x)) → FiredOne d d′ q q′ c (expanded (profileOf (textsOf m l v [])) k x)
+plain-fired m l v n k x d d′ q q′ c b e h z f =
+    rw (expanded-by m l v [] k n x x e (sym (filled-plain (profileOf (textsOf m l v [])) k x (sym h ∙ z)))) at f
 
 -- the loop over a line's words, of which j have fired
 

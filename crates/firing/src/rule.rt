@@ -18,8 +18,9 @@ use text::LineStart;
 use text::Next;
 use text::reader::word_at;
 use values::fill::fill_value;
+use values::fill::has_percent;
 
-// A right word of a rule at the layout k: its value is made in `scratch` and fires, unless there is no room for sure.
+// A right word of a rule at the layout k fires, unless there is no room for sure. Its value is made in `scratch` if it has percent signs.
 fn fire_value(
     x: &[u8],
     component: usize,
@@ -41,6 +42,9 @@ fn fire_value(
 {
     if LONGEST_TOTAL < q.total {
         return q;
+    }
+    if !has_percent(x) {
+        return fire(x, n, component, buf, q);
     }
     let length = fill_value(x, model, layouts, variants, bounds, n, k, scratch);
     fire(&scratch[0..length], n, component, buf, q)

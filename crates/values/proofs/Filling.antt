@@ -1,17 +1,17 @@
 -- A word filled piece by piece, and how long it gets.
 use Prim.Native.Nat.{ℕ, zero, suc, _+_, _-_, _*_, _/_, _%_, _≤_, _<_}
 use native.Mathlib.Omega.{arith}
-use mathlib.Core.Path.{_≡_, refl, ap, _∙_}
+use mathlib.Core.Path.{_≡_, refl, sym, ap, _∙_}
 use mathlib.Core.List.{List, [], _∷_, _++_}
-use mathlib.Core.Bool.{Bool, true, false, _&&_, cond}
+use mathlib.Core.Bool.{Bool, true, false, _&&_, _||_, cond}
 use lib.ListN.{length, drop, getD, length-append, length-drop, drop-of-length-le}
 use lib.Seq.{drop-drop}
 use lib.Dec.{eqb, ltb, leb}
-use borrow.Author.Tests.{ltb-false}
+use borrow.Author.Tests.{eqb-false, eq-eqb, ne-eqb, ltb-false}
 use Rattle.text.specs.Limits.{longestField}
 use Rattle.text.specs.Bytes.{Text, empty, anyOf, concatMap}
 use Rattle.text.proofs.Comparing.{drop-at}
-use Rattle.text.proofs.Lists.{neither}
+use Rattle.text.proofs.Lists.{neither, any-nil}
 use Rattle.output.specs.Store.{farthest, past, Wrote}
 use Rattle.output.proofs.Stores.{take-stored}
 use Rattle.profile.specs.Profile.{Profile, textsOf, fields, profileOf, layoutCount}
@@ -26,7 +26,7 @@ use Rattle.rules.specs.Headings.{decimal}
 use Rattle.rules.specs.Percent.{pieceAfter, variableLength, pieceLength, pieces}
 use Rattle.rules.proofs.Pieces.{pieces-none, pieces-byte, pieces-item, piece-fits}
 use Rattle.values.specs.Values.{choose, valueOf, pieceText, filled}
-use Rattle.values.specs.Filling.{mostPerByte, Short, Filled}
+use Rattle.values.specs.Filling.{mostPerByte, Short, Filled, isPercent}
 use Rattle.values.proofs.Writes.{Writing, writing-start, writing-more, writing-end, wrote-long}
 
 -- a word's pieces
@@ -51,6 +51,14 @@ module _ (p : Profile) (k : ℕ) where
   pub filled-byte : (b : ℕ) (r : Text) → (b ≡ 37 → ⊥) → filled p k (b ∷ r) ≡ (b ∷ []) ++ filled p k r
   unfolding filled
   filled-byte b r n = rw (pieces-byte b r n, concat-cons, byte-text)
+
+  -- a word without percent signs is its own value
+  pub filled-plain : (w : Text) → anyOf isPercent w ≡ false → filled p k w ≡ w
+  unfolding anyOf
+  filled-plain [] h = filled-none
+  filled-plain (b ∷ w) h =
+      let x = neither (eqb b 37) (anyOf isPercent w) h in
+      filled-byte b w (eqb-false b 37 (x .0)) ∙ ap (λ (u : Text). b ∷ u) (filled-plain w (x .1))
 
   pub filled-item : (b : ℕ) (r : Text) → b ≡ 37 → filled p k (b ∷ r) ≡ pieceText p k (pieceAfter r) ++ filled p k (drop (pieceLength (pieceAfter r)) r)
   unfolding filled
@@ -204,3 +212,26 @@ module _ (m l v : Text) (short : Short m l v) (k : ℕ) where
   going-end w d d′ i o r g h a b e =
       filled-of d d′ (filled (profileOf (textsOf m l v [])) k w) o r (omega (arith, filled-short w)) b
       (going-over (profileOf (textsOf m l v [])) k w d d′ i o g h) e
+
+-- the loop of `has_percent`: up to i there is none
+pub record NonePercent (w : Text) (i : ℕ) : Type 0 where
+  pub high : i ≤ length w
+  pub rest : anyOf isPercent w ≡ anyOf isPercent (drop i w)
+
+pub none-start : (w : Text) → NonePercent w 0
+none-start w = record { high = omega arith; rest = refl }
+
+module _ (w : Text) (i : ℕ) (v : NonePercent w i) where
+  pub none-end : length w ≤ i → false ≡ anyOf isPercent w
+  none-end h = sym (v .rest ∙ rw (drop-of-length-le w h) (any-nil isPercent))
+
+  module _ (h : i < length w) where
+    none-step : anyOf isPercent w ≡ isPercent (getD w i 0) || anyOf isPercent (drop (i + 1) w)
+    unfolding anyOf
+    none-step = v .rest ∙ rw (drop-at w i h)
+
+    pub none-here : getD w i 0 ≡ 37 → true ≡ anyOf isPercent w
+    none-here e = sym (none-step ∙ rw (eq-eqb (getD w i 0) 37 e))
+
+    pub none-more : (getD w i 0 ≡ 37 → ⊥) → NonePercent w (i + 1)
+    none-more n = record { high = omega arith; rest = none-step ∙ rw (ne-eqb (getD w i 0) 37 n) }

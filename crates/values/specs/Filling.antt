@@ -2,7 +2,8 @@
 use Prim.Native.Nat.{ℕ, _≤_}
 use mathlib.Core.Path.{_≡_}
 use mathlib.Core.List.{[], _∷_, _++_}
-use mathlib.Core.Bool.{false, cond}
+use mathlib.Core.Bool.{Bool, false, cond}
+use lib.Dec.{eqb}
 use lib.ListN.{length, take}
 use Rattle.text.specs.Bytes.{Text, empty, anyOf}
 use Rattle.profile.specs.Profile.{fields}
@@ -25,6 +26,9 @@ dressed (Bare v) t = t
 dressed (Parens v) t = enclosed t
 dressed (Prefixed b v) t = prefixed b t
 dressed Unclosed t = []
+
+abbrev pub isPercent : ℕ → Bool
+isPercent b = eqb b 37
 
 -- "No field exceeds 64 bytes.": the model, which is one field, the layouts and the variants.
 pub record Short (m l v : Text) : Type 0 where

@@ -3,11 +3,12 @@ ghost use mathlib.Core.Path.{_≡_};
 ghost use mathlib.Core.List.{[]};
 ghost use Prim.Native.Nat.{_*_, _-_, _≤_, _<_};
 ghost use lib.ListN.{length};
+ghost use Rattle.text.specs.Bytes.{anyOf};
 ghost use Rattle.output.specs.Store.{farthest, Wrote};
 ghost use Rattle.profile.specs.Profile.{textsOf, fields, profileOf};
 ghost use Rattle.profile.specs.Bounds.{TextBounds, Bounds};
 ghost use Rattle.values.specs.Values.{choose, valueOf, pieceText, filled};
-ghost use Rattle.values.specs.Filling.{enclosed, prefixed, dressed, mostPerByte, Short, Filled};
+ghost use Rattle.values.specs.Filling.{enclosed, prefixed, dressed, mostPerByte, Short, Filled, isPercent};
 use super::write;
 use profile::fields::LAYOUTS;
 use profile::fields::VARIANTS;
@@ -166,6 +167,20 @@ pub fn put_piece(
         ),
         Piece::Unclosed => at,
     }
+}
+
+// Whether a word has a percent sign; one that has none is its own value.
+pub fn has_percent(w: &[u8]) -> bool
+    ensures { λ r. ⌜ r ≡ anyOf isPercent (now (w .entry)) ⌝ }
+{
+    let mut i: usize = 0;
+    while i < w.len() {
+        if w[i] == b'%' {
+            return true;
+        }
+        i += 1;
+    }
+    false
 }
 
 // Writes a word with the profile's values put in at the start of `scratch`, and gives its length.
