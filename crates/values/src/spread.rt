@@ -12,7 +12,7 @@ ghost use Rattle.values.specs.Cutting.{closesAll, FirstAll, ToColon, sta
 use super::write;
 
 // Whether a byte is a sign.
-pub fn is_sign(b: u8) -> bool
+fn is_sign(b: u8) -> bool
     ensures { λ r. ⌜ r ≡ isSign b ⌝ }
 {
     b == b'+' || b == b'|'
@@ -26,7 +26,7 @@ pub fn is_signed(t: &[u8]) -> bool
 }
 
 // Writes `:` and a copy's number.
-pub fn put_end(k: usize, out: &mut [u8], at: u32) -> u32
+fn put_end(k: usize, out: &mut [u8], at: u32) -> u32
     requires { ⌜ (k < 100) × (length (now out) ≤ farthest) ⌝ }
     ensures { λ r. ⌜ Wrote (now (out .entry)) (now (out .exit)) at (58 ∷ decimal k) r ⌝ }
 {
@@ -269,6 +269,10 @@ pub fn put_spread(t: &[u8], n: usize, out: &mut [u8], at: u32) -> u32
     requires { ⌜ (1 ≤ n) × (n < 10) × (length (now t) ≤ farthest) × (length (now out) ≤ farthest) × (at ≤ farthest) ⌝ }
     ensures { λ r. ⌜ Wrote (now (out .entry)) (now (out .exit)) at (concatMap (spread n) (cuts (now (t .entry)))) r ⌝ }
 {
+    // too short for `:all`
+    if t.len() < 4 {
+        return output::put_part(t, 0, t.len(), out, at);
+    }
     if out.len() <= output::wide(at) {
         return output::past(at, spread_length(t, n));
     }

@@ -1,12 +1,12 @@
-use borrow.Author.Needs.{needs}
-use native.Mathlib.Omega.{arith}
-use Prim.Native.Nat.{_-_}
-use mathlib.Core.Path.{_∙_}
-use lib.ListN.{length}
+use Rattle.values.proofs.Keeping.{last-short}
 use Rattle.values.proofs.Spreading.{Spreading, spreading-start, spreading-end, spreading-copies, spreading-more, spread-behind}
+use lib.ListN.{length}
+use mathlib.Core.Path.{_∙_}
+use Prim.Native.Nat.{_-_}
+use native.Mathlib.Omega.{arith}
+use borrow.Author.Needs.{needs}
 use Rattle.values.proofs.spread.put_spread.Statement.{statement}
 use Rattle.values.proofs.spread.put_spread.Tie as tie
-use Rattle.values.proofs.spread.put_spread.Reads as reads
 use Rattle.output.proofs.past.Reads as past-reads
 use Rattle.output.proofs.put_part.Reads as put-part-reads
 use Rattle.output.proofs.wide.Reads as wide-reads
@@ -21,6 +21,15 @@ Inv-loop t n out₀ at i₀ o₀ out i o = Spreading t n out₀ out at i o
 abbrev μ-loop : tie.MeasureT-loop
 μ-loop t n out₀ at i₀ o₀ out i o = length t - i
 
+put-part-requires : tie.Need-put-part-requires Inv-loop μ-loop
+put-part-requires c κs = search needs
+
+same-length : tie.Need-same-length Inv-loop μ-loop
+same-length c = search needs
+
+returns : tie.Need-returns Inv-loop μ-loop
+returns c = spreading-end _ _ _ _ _ _ _ (spreading-start _ _ _ _ (c .before .before .before .before .before .before .before .pre .3) (c .before .before .before .before .before .before .before .pre .4)) _ (last-short _ 0 (omega arith) (omega (arith, c .before .before .before .before .if1 .taken))) _ _ (omega arith) (c .before .before .put-part .ensures)
+
 wide-requires : tie.Need-wide-requires Inv-loop μ-loop
 wide-requires c κs = search needs
 
@@ -30,38 +39,38 @@ spread-length-requires c κs = search needs
 past-requires : tie.Need-past-requires Inv-loop μ-loop
 past-requires c κs = search needs
 
-returns : tie.Need-returns Inv-loop μ-loop
-returns c = spread-behind _ _ _ _ _ _ _ (c .before .before .before .wide .ensures .0) (c .before .before .if1 .taken) (c .before .spread-length .ensures) (c .past .ensures)
+returns-2 : tie.Need-returns-2 Inv-loop μ-loop
+returns-2 c = spread-behind _ _ _ _ _ _ _ (c .before .before .before .wide .ensures .0) (c .before .before .if2 .taken) (c .before .spread-length .ensures) (c .past .ensures)
 
 loop-holds : tie.Need-loop-holds Inv-loop μ-loop
-loop-holds c = spreading-start _ _ _ _ (c .before .before .before .before .pre .3) (c .before .before .before .before .pre .4)
+loop-holds c = spreading-start _ _ _ _ (c .before .before .before .before .before .pre .3) (c .before .before .before .before .before .pre .4)
 
 find-all-requires : tie.Need-find-all-requires Inv-loop μ-loop
 find-all-requires c κs = search needs
 
-put-part-requires : tie.Need-put-part-requires Inv-loop μ-loop
-put-part-requires c κs = (c .before .before .find-all .ensures .free .low, c .before .before .find-all .ensures .free .high)
+put-part-requires-2 : tie.Need-put-part-requires-2 Inv-loop μ-loop
+put-part-requires-2 c κs = (c .before .before .find-all .ensures .free .low, c .before .before .find-all .ensures .free .high)
 
-same-length : tie.Need-same-length Inv-loop μ-loop
-same-length c = c .before .before .put-part .kept .1 .1 .1 .0 ∙ c .before .before .before .before .before .before .loop .inv .left .long
+same-length-2 : tie.Need-same-length-2 Inv-loop μ-loop
+same-length-2 c = c .before .before .put-part2 .kept .1 .1 .1 .0 ∙ c .before .before .before .before .before .before .loop .inv .left .long
 
-returns-2 : tie.Need-returns-2 Inv-loop μ-loop
-returns-2 c = spreading-end _ _ _ _ _ _ _ (c .before .before .before .before .before .before .loop .inv) _ (c .before .before .before .before .before .find-all .ensures) _ _ (c .before .before .before .before .if2 .taken) (c .before .before .put-part .ensures)
+returns-3 : tie.Need-returns-3 Inv-loop μ-loop
+returns-3 c = spreading-end _ _ _ _ _ _ _ (c .before .before .before .before .before .before .loop .inv) _ (c .before .before .before .before .before .find-all .ensures) _ _ (c .before .before .before .before .if3 .taken) (c .before .before .put-part2 .ensures)
 
 put-first-requires : tie.Need-put-first-requires Inv-loop μ-loop
-put-first-requires c κs = (c .before .before .find-all .ensures .free .low, c .before .before .find-all .ensures .free .high, omega (arith, c .before .before .before .loop .inv .left .long, c .before .before .before .before .before .before .before .before .pre .3), c .before .before .before .loop .inv .left .low)
+put-first-requires c κs = (c .before .before .find-all .ensures .free .low, c .before .before .find-all .ensures .free .high, omega (arith, c .before .before .before .loop .inv .left .long, c .before .before .before .before .before .before .before .before .before .pre .3), c .before .before .before .loop .inv .left .low)
 
 put-more-requires : tie.Need-put-more-requires Inv-loop μ-loop
-put-more-requires c κs = let w = spreading-copies _ _ _ _ _ _ _ (c .before .before .before .before .before .before .before .loop .inv) _ (c .before .before .before .before .before .before .find-all .ensures) _ _ (c .before .before .before .before .before .if2 .left) (c .before .before .before .before .before .before .before .before .before .before .before .before .pre .0) (c .before .before .before .put-first .ensures) in (c .before .before .before .before .before .before .find-all .ensures .free .low, c .before .before .before .before .before .if2 .left, c .before .before .before .before .before .before .before .before .before .before .before .before .pre .0, c .before .before .before .before .before .before .before .before .before .before .before .before .pre .1, c .before .before .before .before .before .before .before .before .before .before .before .before .pre .2, omega (arith, w .long, c .before .before .before .before .before .before .before .before .before .before .before .before .pre .3), w .low)
+put-more-requires c κs = let w = spreading-copies _ _ _ _ _ _ _ (c .before .before .before .before .before .before .before .loop .inv) _ (c .before .before .before .before .before .before .find-all .ensures) _ _ (c .before .before .before .before .before .if3 .left) (c .before .before .before .before .before .before .before .before .before .before .before .before .before .pre .0) (c .before .before .before .put-first .ensures) in (c .before .before .before .before .before .before .find-all .ensures .free .low, c .before .before .before .before .before .if3 .left, c .before .before .before .before .before .before .before .before .before .before .before .before .before .pre .0, c .before .before .before .before .before .before .before .before .before .before .before .before .before .pre .1, c .before .before .before .before .before .before .before .before .before .before .before .before .before .pre .2, omega (arith, w .long, c .before .before .before .before .before .before .before .before .before .before .before .before .before .pre .3), w .low)
 
 add-i : tie.Need-add-i Inv-loop μ-loop
-add-i c = omega (arith, c .before .before .before .before .before .before .before .before .before .find-all .ensures .free .high, c .before .before .before .before .before .before .before .before .before .before .before .before .before .before .before .pre .2)
+add-i c = omega (arith, c .before .before .before .before .before .before .before .before .before .find-all .ensures .free .high, c .before .before .before .before .before .before .before .before .before .before .before .before .before .before .before .before .pre .2)
 
 loop-less : tie.Need-loop-less Inv-loop μ-loop
-loop-less c = omega (arith, c .before .before .before .before .before .before .before .before .before .find-all .ensures .free .low, c .before .before .before .before .before .before .before .before .if2 .left)
+loop-less c = omega (arith, c .before .before .before .before .before .before .before .before .before .find-all .ensures .free .low, c .before .before .before .before .before .before .before .before .if3 .left)
 
 loop-again : tie.Need-loop-again Inv-loop μ-loop
-loop-again c = spreading-more _ _ _ _ _ _ _ (c .before .before .before .before .before .before .before .before .before .before .loop .inv) _ (c .before .before .before .before .before .before .before .before .before .find-all .ensures) _ _ (c .before .before .before .before .before .before .before .before .if2 .left) (c .before .before .before .before .before .before .before .before .before .before .before .before .before .before .before .pre .0) (c .before .before .before .before .before .before .put-first .ensures) _ _ (c .before .before .put-more .ensures)
+loop-again c = spreading-more _ _ _ _ _ _ _ (c .before .before .before .before .before .before .before .before .before .before .loop .inv) _ (c .before .before .before .before .before .before .before .before .before .find-all .ensures) _ _ (c .before .before .before .before .before .before .before .before .if3 .left) (c .before .before .before .before .before .before .before .before .before .before .before .before .before .before .before .before .pre .0) (c .before .before .before .before .before .before .put-first .ensures) _ _ (c .before .before .put-more .ensures)
 
 pub put-spread-spec : {M : Type 1} → statement M
 put-spread-spec =
@@ -69,15 +78,18 @@ put-spread-spec =
     (tie.spec
     Inv-loop
     μ-loop
+    put-part-requires
+    same-length
+    returns
     wide-requires
     spread-length-requires
     past-requires
-    returns
+    returns-2
     loop-holds
     find-all-requires
-    put-part-requires
-    same-length
-    returns-2
+    put-part-requires-2
+    same-length-2
+    returns-3
     put-first-requires
     put-more-requires
     add-i
