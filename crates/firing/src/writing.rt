@@ -30,22 +30,22 @@ pub fn fire(t: &[u8], n: usize, component: usize, buf: &mut [u8], q: Cursors) ->
     requires { ⌜ (1 ≤ n) × (n < 10) × (length (now t) ≤ farthest) × (length (now buf) ≤ farthest) × Low (q .at) × (q .total ≤ longestTotal) ⌝ }
     ensures { λ r. ⌜ FiredOne (now (buf .entry)) (now (buf .exit)) q r component (concatMap (spread n) (cuts (now (t .entry)))) ⌝ }
 {
+    let mut next = q;
     if 4 < component {
-        return q;
+        return next;
     }
     if t.len() == 0 {
-        return q;
+        return next;
     }
     let addition = is_signed(t);
-    if !addition && q.based[component] {
-        return q;
+    if !addition && next.based[component] {
+        return next;
     }
     let r = region(component, addition);
-    let from = q.at[r];
+    let from = next.at[r];
     let p = put_spread(t, n, buf, from);
-    let mut next = q;
     next.at[r] = p;
-    next.total = q.total + (p - from);
+    next.total += p - from;
     if addition {
         return next;
     }
