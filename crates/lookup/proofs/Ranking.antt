@@ -8,9 +8,9 @@ use lib.Dec.{eqb, ltb}
 use lib.ListN.{getD}
 use borrow.Author.Tests.{eqb-true, eqb-false, ltb-true, ltb-false, lt-ltb}
 use Rattle.text.specs.Bytes.{Text, same, anyOf}
-use Rattle.text.proofs.Lists.{no, same-eq, same-self}
+use Rattle.text.proofs.Lists.{no, same-eq}
 use Rattle.lookup.specs.Names.{nameAt, namesAt, rankedAt, numberOf, rankOf, mostNames, before, Named}
-use Rattle.lookup.proofs.Ordering.{before-self, before-through, before-one}
+use Rattle.lookup.proofs.Ordering.{before-self, before-through}
 
 pub below-or : (x y : ℕ) → x ≤ y → (x ≡ y → ⊥) → x < y
 below-or x y l d = by (ltb x y) refl
@@ -165,12 +165,12 @@ number-few s t w (suc n) l = by (same w (nameAt s t n)) l (number-few s t w n)
     by false k f = let d = f k in omega arith
 
 -- no name is w
-none-named : (s : Text) (t : List ℕ) (w : Text) (n : ℕ) → ((g : ℕ) → g < n → same w (nameAt s t g) ≡ false) → numberOf s t n w ≡ mostNames
+pub none-named : (s : Text) (t : List ℕ) (w : Text) (n : ℕ) → ((g : ℕ) → g < n → same w (nameAt s t g) ≡ false) → numberOf s t n w ≡ mostNames
 none-named s t w zero f = number-none s t w
 none-named s t w (suc n) f = number-suc s t n w ∙ rw (f n (omega arith)) (none-named s t w n (λ g l. f g (omega arith)))
 
 -- one name is w, and no later one
-one-named : (s : Text) (t : List ℕ) (w : Text) (n g : ℕ) → g < n → same w (nameAt s t g) ≡ true → ((k : ℕ) → g < k → k < n → same w (nameAt s t k) ≡ false) →
+pub one-named : (s : Text) (t : List ℕ) (w : Text) (n g : ℕ) → g < n → same w (nameAt s t g) ≡ true → ((k : ℕ) → g < k → k < n → same w (nameAt s t k) ≡ false) →
     numberOf s t n w ≡ g
 one-named s t w zero g l e f = absurd (omega arith)
 one-named s t w (suc n) g l e f = number-suc s t n w ∙ by (eqb g n) refl (λ k. one-named s t w n g k e (λ j a b. f j a (omega arith)))
@@ -187,12 +187,12 @@ ranked-is s t i = refl
 
 module _ (s : Text) (t : List ℕ) (n : ℕ) (v : Named s t n) where
   -- a name by its rank
-  at-rank : (g : ℕ) (l : g < n) → rankedAt s t (v .ranks g l .rank) ≡ nameAt s t g
+  pub at-rank : (g : ℕ) (l : g < n) → rankedAt s t (v .ranks g l .rank) ≡ nameAt s t g
   at-rank g l = ranked-is s t (v .ranks g l .rank) ∙ ap (nameAt s t) (v .ranks g l .number)
 
   module _ (w : Text) (r : ℕ) (h : Ranks s t n w r) where
     -- a name that is w has the rank r
-    alike-here : (g : ℕ) (l : g < n) → same w (nameAt s t g) ≡ true → v .ranks g l .rank ≡ r
+    pub alike-here : (g : ℕ) (l : g < n) → same w (nameAt s t g) ≡ true → v .ranks g l .rank ≡ r
     alike-here g l e = by (ltb (v .ranks g l .rank) r) refl
       where
         same-name : w ≡ rankedAt s t (v .ranks g l .rank)
@@ -236,23 +236,6 @@ module _ (s : Text) (t : List ℕ) (n : ℕ) (v : Named s t n) where
             let c : v .ranks g l .rank ≡ r = alike-here g l e in
             let f : getD t (128 + r) 0 ≡ g = ap (λ (i : ℕ). getD t (128 + i) 0) (sym c) ∙ v .ranks g l .number in
             absurd (omega arith)
-
-    -- the name of rank r is not before w, so the order tells the two apart
-    module _ (k : r < n) (b : Bool) (be : b ≡ before w (nameAt s t (getD t (128 + r) 0))) where
-      pub rank-behind : b ≡ true → mostNames ≡ numberOf s t n w
-      rank-behind q = find-other k (go (same w (nameAt s t (getD t (128 + r) 0))) refl)
-        where
-          go : (u : Bool) → same w (nameAt s t (getD t (128 + r) 0)) ≡ u → same w (nameAt s t (getD t (128 + r) 0)) ≡ false
-          go false e = e
-          go true e =
-              let z : w ≡ nameAt s t (getD t (128 + r) 0) = same-eq w (nameAt s t (getD t (128 + r) 0)) e in
-              absurd (no (sym (before-self w) ∙ (ap (before w) z ∙ (sym be ∙ q))))
-
-      pub rank-this : b ≡ false → getD t (128 + r) 0 ≡ numberOf s t n w
-      rank-this q =
-          let y : before (nameAt s t (getD t (128 + r) 0)) w ≡ false = ap (λ (u : Text). before u w) (sym (ranked-is s t r)) ∙ h .above r (omega arith) k in
-          let z : w ≡ nameAt s t (getD t (128 + r) 0) = before-one w (nameAt s t (getD t (128 + r) 0)) (sym be ∙ q) y in
-          find-this k (ap (λ (u : Text). same u (nameAt s t (getD t (128 + r) 0))) z ∙ same-self (nameAt s t (getD t (128 + r) 0)))
 
 -- what the loop has seen of a name, by its number
 pub seen : (s : Text) (t : List ℕ) (w : Text) (i : ℕ) (r b : Bool) → r ≡ before (nameAt s t (getD t (128 + i) 0)) w → r ≡ b → before (rankedAt s t i) w ≡ b

@@ -7,6 +7,7 @@ ghost use Rattle.text.specs.Bytes.{same as sameText, anyOf};
 ghost use Rattle.lookup.specs.Names.{Named, nameAt, namesAt, numberOf, mostNames, rankOf, keyOf, before, moved, Added};
 use super::order::is_shorter;
 use super::order::key_of;
+use text::compare::same;
 
 // Name g of the first n.
 fn name_of<'a>(s: &'a [u8], table: &[usize; 256], n: usize, g: usize) -> &'a [u8]
@@ -16,6 +17,17 @@ fn name_of<'a>(s: &'a [u8], table: &[usize; 256], n: usize, g: usize) -> &'a [u8
     let start = table[2 * g];
     let end = table[2 * g + 1];
     &s[start..end]
+}
+
+// Whether name g of the first n is a name with this key.
+fn is_name(s: &[u8], table: &[usize; 256], n: usize, g: usize, name: &[u8], key: usize) -> bool
+    requires { ⌜ Named (now s) (now table) n × (g < n) × (key ≡ keyOf (now name)) ⌝ }
+    ensures { λ r. ⌜ r ≡ sameText (now (name .entry)) (nameAt (now (s .entry)) (now (table .entry)) g) ⌝ }
+{
+    if table[192 + g] != key {
+        return false;
+    }
+    same(name, name_of(s, table, n, g))
 }
 
 // Whether name g of the first n stands before a name with this key.
@@ -35,25 +47,6 @@ fn stands_before(
         return k < key;
     }
     is_shorter(name_of(s, table, n, g), name)
-}
-
-// Whether it stands behind the name.
-fn stands_behind(
-    s: &[u8],
-    table: &[usize; 256],
-    n: usize,
-    g: usize,
-    name: &[u8],
-    key: usize,
-) -> bool
-    requires { ⌜ Named (now s) (now table) n × (g < n) × (key ≡ keyOf (now name)) ⌝ }
-    ensures { λ r. ⌜ r ≡ before (now (name .entry)) (nameAt (now (s .entry)) (now (table .entry)) g) ⌝ }
-{
-    let k = table[192 + g];
-    if k != key {
-        return key < k;
-    }
-    is_shorter(name, name_of(s, table, n, g))
 }
 
 // The rank of a name with this key among the first n, or that it would have.
@@ -83,11 +76,10 @@ fn number_at(s: &[u8], table: &[usize; 256], n: usize, i: usize, name: &[u8], ke
         return 64;
     }
     let g = table[128 + i];
-    // the name at this rank is not before it, so it is the same unless it is behind
-    if stands_behind(s, table, n, g, name, key) {
-        return 64;
+    if is_name(s, table, n, g, name, key) {
+        return g;
     }
-    g
+    64
 }
 
 // The number of a name among the first n, or 64.
@@ -96,8 +88,21 @@ pub fn find(s: &[u8], table: &[usize; 256], n: usize, name: &[u8]) -> usize
     ensures { λ r. ⌜ r ≡ numberOf (now (s .entry)) (now (table .entry)) n (now (name .entry)) ⌝ }
 {
     let key = key_of(name);
-    let i = rank_of(s, table, n, name, key);
-    number_at(s, table, n, i, name, key)
+    let mut low: usize = 0;
+    let mut high = n;
+    while low < high {
+        let i = low + (high - low) / 2;
+        let g = table[128 + i];
+        if is_name(s, table, n, g, name, key) {
+            return g;
+        }
+        if stands_before(s, table, n, g, name, key) {
+            low = i + 1;
+        } else {
+            high = i;
+        }
+    }
+    64
 }
 
 // Whether one of the first n is the name.

@@ -1,8 +1,9 @@
+use mathlib.Core.Path.{sym, _∙_}
 use borrow.Author.Needs.{needs}
-use Rattle.lookup.proofs.Ranking.{ranks-by, find-end, rank-behind, rank-this}
+use Rattle.lookup.proofs.Ranking.{ranks-by, find-end, find-other, find-this}
 use Rattle.lookup.proofs.names.number_at.Statement.{statement}
 use Rattle.lookup.proofs.names.number_at.Tie as tie
-use Rattle.lookup.proofs.names.stands_behind.Reads as stands-behind-reads
+use Rattle.lookup.proofs.names.is_name.Reads as is-name-reads
 
 returns : tie.Need-returns
 returns c = find-end _ _ _ (c .before .before .before .pre .0) _ _ (ranks-by _ _ _ (c .before .before .before .pre .0) _ _ (c .before .before .before .pre .1)) (c .if1 .taken)
@@ -16,16 +17,16 @@ mul-g c = search needs
 element-copy-out-g : tie.Need-element-copy-out-g
 element-copy-out-g c = search needs
 
-stands-behind-requires : tie.Need-stands-behind-requires
-stands-behind-requires c κs = (c .before .before .before .before .pre .0, c .before .before .before .before .pre .0 .numbers _ (c .before .if1 .left), c .before .before .before .before .pre .2)
+is-name-requires : tie.Need-is-name-requires
+is-name-requires c κs = (c .before .before .before .before .pre .0, c .before .before .before .before .pre .0 .numbers _ (c .before .if1 .left), c .before .before .before .before .pre .2)
 
 returns-2 : tie.Need-returns-2
-returns-2 c = rank-behind _ _ _ (c .before .before .before .before .before .before .pre .0) _ _ (ranks-by _ _ _ (c .before .before .before .before .before .before .pre .0) _ _ (c .before .before .before .before .before .before .pre .1)) (c .before .before .before .if1 .left) _ (c .before .stands-behind .ensures) (c .if2 .taken)
+returns-2 c = find-this _ _ _ (c .before .before .before .before .before .before .pre .0) _ _ (ranks-by _ _ _ (c .before .before .before .before .before .before .pre .0) _ _ (c .before .before .before .before .before .before .pre .1)) (c .before .before .before .if1 .left) (sym (c .before .is-name .ensures) ∙ c .if2 .taken)
 
 returns-3 : tie.Need-returns-3
-returns-3 c = rank-this _ _ _ (c .before .before .before .before .before .before .pre .0) _ _ (ranks-by _ _ _ (c .before .before .before .before .before .before .pre .0) _ _ (c .before .before .before .before .before .before .pre .1)) (c .before .before .before .if1 .left) _ (c .before .stands-behind .ensures) (c .if2 .left)
+returns-3 c = find-other _ _ _ (c .before .before .before .before .before .before .pre .0) _ _ (ranks-by _ _ _ (c .before .before .before .before .before .before .pre .0) _ _ (c .before .before .before .before .before .before .pre .1)) (c .before .before .before .if1 .left) (sym (c .before .is-name .ensures) ∙ c .if2 .left)
 
 pub number-at-spec : {M : Type 1} → statement M
 number-at-spec =
     tie.close
-    (tie.spec returns add-g mul-g element-copy-out-g stands-behind-requires returns-2 returns-3)
+    (tie.spec returns add-g mul-g element-copy-out-g is-name-requires returns-2 returns-3)
