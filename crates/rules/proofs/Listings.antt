@@ -11,7 +11,7 @@ use lib.Seq.{drop-cons, take-suc-set, append-snoc}
 use lib.Dec.{eqb, leb, ltb}
 use borrow.Author.Tests.{eq-eqb, ne-eqb, eqb-true, eqb-false, le-leb, lt-leb, leb-true, leb-false, ltb-true, not-true}
 use Rattle.text.specs.Bytes.{anyOf, allOf}
-use Rattle.text.proofs.Lists.{neither}
+use Rattle.text.proofs.Lists.{and-both, neither}
 use Rattle.rules.specs.declared.Listing.{Listing}
 use Rattle.rules.specs.Headings.{distinct}
 use Rattle.rules.specs.Sets.{nothingListed, spoiled, added, addedAll, addedComponent, addedComponents}
@@ -82,10 +82,6 @@ pub kept-none : Kept [] nothingListed
 unfolding nothingListed distinct
 kept-none = record { size = refl; good = refl; count = λ h. refl; held = λ h. refl }
 
-pub both : (a b : Bool) → (a && b) ≡ true → (a ≡ true) × (b ≡ true)
-both true b h = (refl, h)
-both false b h = absurd (false≢true h)
-
 -- what keeps a number out: there are five, or it is there
 out : Listing → ℕ → Bool
 out l x = leb 5 (l .count) || anyOf (eqb x) (take (l .count) (l .items))
@@ -144,7 +140,7 @@ module _ (xs : List ℕ) (l : Listing) (x : ℕ) (k : Kept xs l) where
       go false h = rw (← k .good, h)
 
   kept-in : added l x .good ≡ true → (l .good ≡ true) × (out l x ≡ false)
-  kept-in h = let b = both (l .good) (not (out l x)) (sym (added-good l x) ∙ h) in (b .0, not-true (out l x) (b .1))
+  kept-in h = let b = and-both (l .good) (not (out l x)) (sym (added-good l x) ∙ h) in (b .0, not-true (out l x) (b .1))
 
   pub kept-more : Kept (xs ++ (x ∷ [])) (added l x)
   kept-more =
@@ -193,7 +189,7 @@ pub components-known : (l : Listing) (cs : List ℕ) → allOf (λ c. ltb c 5) c
 unfolding addedComponents addedAll allOf
 components-known l [] h = refl
 components-known l (c ∷ cs) h =
-    let b = both (ltb c 5) (allOf (λ c. ltb c 5) cs) h in
+    let b = and-both (ltb c 5) (allOf (λ c. ltb c 5) cs) h in
     components-known (addedComponent l c) cs (b .1) ∙ rw (component-in l c (b .0))
 
 pub components-unknown : (l : Listing) (cs : List ℕ) → allOf (λ c. ltb c 5) cs ≡ false → addedComponents l cs .good ≡ false
@@ -216,13 +212,13 @@ occurs-not : (k : ℕ) (xs : List ℕ) → allOf (λ m. not (eqb k m)) xs ≡ tr
 unfolding occurs allOf
 occurs-not k [] h = refl
 occurs-not k (x ∷ xs) h =
-    let b = both (not (eqb k x)) (allOf (λ m. not (eqb k m)) xs) h in
+    let b = and-both (not (eqb k x)) (allOf (λ m. not (eqb k m)) xs) h in
     rw (not-true (eqb k x) (b .0), occurs-not k xs (b .1))
 
 occurs-once : (k : ℕ) (xs : List ℕ) → distinct xs ≡ true → occurs k xs ≤ 1
 unfolding occurs distinct
 occurs-once k [] h = omega arith
-occurs-once k (x ∷ xs) h = go (eqb k x) refl (both (allOf (λ m. not (eqb x m)) xs) (distinct xs) h) (occurs-once k xs)
+occurs-once k (x ∷ xs) h = go (eqb k x) refl (and-both (allOf (λ m. not (eqb x m)) xs) (distinct xs) h) (occurs-once k xs)
   where
     go : (t : Bool) → eqb k x ≡ t → ((allOf (λ m. not (eqb x m)) xs ≡ true) × (distinct xs ≡ true)) → (distinct xs ≡ true → occurs k xs ≤ 1) → cond t 1 0 + occurs k xs ≤ 1
     go true e b ih = let z : occurs k xs ≡ 0 = rw (eqb-true k x e) (occurs-not x xs (b .0)) in omega arith
@@ -241,7 +237,7 @@ occurs-sum : (xs : List ℕ) → allOf (λ c. ltb c 5) xs ≡ true →
 unfolding occurs allOf
 occurs-sum [] h = refl
 occurs-sum (x ∷ xs) h =
-    let b = both (ltb x 5) (allOf (λ c. ltb c 5) xs) h in
+    let b = and-both (ltb x 5) (allOf (λ c. ltb c 5) xs) h in
     omega (arith, occurs-sum xs (b .1), occurs-five x (ltb-true x 5 (b .0)))
 
 pub few : (xs : List ℕ) → distinct xs ≡ true → allOf (λ c. ltb c 5) xs ≡ true → length xs ≤ 5

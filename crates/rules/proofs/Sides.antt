@@ -10,6 +10,7 @@ use lib.Seq.{drop-cons, getD-take}
 use lib.Dec.{eqb, ltb, leb}
 use borrow.Author.Tests.{le-leb}
 use Rattle.text.specs.Bytes.{Text, Words, allOf, concatMap}
+use Rattle.text.proofs.Lists.{and-both}
 use Rattle.rules.specs.declared.Column.{Column}
 use Rattle.rules.specs.declared.Column.the-variants as column
 use Rattle.rules.specs.declared.Index.{Index}
@@ -23,7 +24,7 @@ use Rattle.rules.specs.Words.{isEquals}
 use Rattle.rules.specs.Headings.{leftItem, componentOf, columnNumber, columnsIn, indexesIn, indexNumber, knownIndex, knownItem, distinct, alike, firstIndex, goodItems, headingOf}
 use Rattle.rules.specs.Entries.{before, after}
 use Rattle.rules.specs.Sets.{nothingListed, addedAll, addedComponent, addedComponents, noItems, goodIndex, withColumn, withIndexed, withUnknown, withItem, withItems, Holds, IsSet}
-use Rattle.rules.proofs.Listings.{both, Kept, listing-all, components-known, components-unknown, few}
+use Rattle.rules.proofs.Listings.{Kept, listing-all, components-known, components-unknown, few}
 
 -- the words before the first `=`, and those after it
 
@@ -227,8 +228,8 @@ known-columns : (ls : List Item) → allOf knownItem ls ≡ true → length (con
 unfolding allOf knownItem concatMap columnsIn
 known-columns [] h = refl
 known-columns (item.Model ∷ ls) h = ap suc (known-columns ls h)
-known-columns (item.Layout i ∷ ls) h = ap suc (known-columns ls (both (knownIndex i) (allOf knownItem ls) h .1))
-known-columns (item.Variant i ∷ ls) h = ap suc (known-columns ls (both (knownIndex i) (allOf knownItem ls) h .1))
+known-columns (item.Layout i ∷ ls) h = ap suc (known-columns ls (and-both (knownIndex i) (allOf knownItem ls) h .1))
+known-columns (item.Variant i ∷ ls) h = ap suc (known-columns ls (and-both (knownIndex i) (allOf knownItem ls) h .1))
 known-columns (item.Options ∷ ls) h = ap suc (known-columns ls h)
 known-columns (item.Unknown ∷ ls) h = absurd (false≢true h)
 
@@ -242,10 +243,10 @@ pub record GoodParts (ls : List Item) (rs : List ℕ) : Type 0 where
 pub good-parts : (ls : List Item) (rs : List ℕ) → goodItems ls rs ≡ true → GoodParts ls rs
 unfolding goodItems
 good-parts ls rs h =
-    let a = both (allOf knownItem ls) _ h in
-    let b = both (allOf (λ c. ltb c 5) rs) _ (a .1) in
-    let d = both (distinct (map columnNumber (concatMap columnsIn ls))) _ (b .1) in
-    let e = both (distinct rs) _ (d .1) in
+    let a = and-both (allOf knownItem ls) _ h in
+    let b = and-both (allOf (λ c. ltb c 5) rs) _ (a .1) in
+    let d = and-both (distinct (map columnNumber (concatMap columnsIn ls))) _ (b .1) in
+    let e = and-both (distinct rs) _ (d .1) in
     record { items = a .0; components = b .0; left = d .0; right = e .0 }
 
 -- A set heading of more than ten words has an item unknown or repeated.
@@ -313,8 +314,8 @@ module _ (ls : List Item) (rs : List ℕ) (l : LeftSide) (r : Listing) (g : Bool
       let z = good-parts ls rs (sym read-good ∙ h) in
       let a : Kept (map columnNumber (concatMap columnsIn ls)) (l .columns) = rw p (columns-kept ls) in
       let b : Kept rs r = rw (q, components-known nothingListed rs (z .components)) (listing-all rs) in
-      let u = both (l .good) (l .columns .good && r .good) (sym e ∙ h) in
-      let v = both (l .columns .good) (r .good) (u .1) in
+      let u = and-both (l .good) (l .columns .good && r .good) (sym e ∙ h) in
+      let v = and-both (l .columns .good) (r .good) (u .1) in
       let n = a .count (v .0) in
       let m = b .count (v .1) in
       let w = length-map (concatMap columnsIn ls) columnNumber in
