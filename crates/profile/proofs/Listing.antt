@@ -12,12 +12,13 @@ use Rattle.text.specs.Limits.{mostOptions}
 use Rattle.text.specs.Bytes.{Text, same, empty, part, anyOf}
 use Rattle.text.proofs.Comparing.{drop-at}
 use Rattle.text.proofs.Lists.{same-eq, any-nil}
+use Rattle.text.proofs.Positions.{part-empty}
 use Rattle.profile.specs.Profile.{fields, dropEmpty, optionsOf}
 use Rattle.profile.specs.Splitting.{behind, FieldEnd}
 use Rattle.lookup.specs.Names.{mostNames, Named, namesAt, Added}
 use Rattle.lookup.proofs.Adding.{NewName, named-none, new-names, not-again, added-none, added-count, added-new, is-new}
 use Rattle.profile.specs.Listing.{Listed}
-use Rattle.profile.proofs.Splitting.{part-empty, fields-nil, behind-nil, behind-cons}
+use Rattle.profile.proofs.Splitting.{fields-nil, behind-nil, behind-cons}
 
 -- the clauses of the definitions
 

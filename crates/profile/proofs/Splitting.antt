@@ -1,32 +1,17 @@
 -- A text read field by field.
 use Prim.Native.Nat.{ℕ, zero, suc, _+_, _-_, _≤_, _<_}
-use native.Mathlib.Nat.{sub-self}
 use native.Mathlib.Omega.{arith}
 use mathlib.Core.Path.{_≡_, refl, sym, ap, _∙_}
 use mathlib.Core.List.{List, [], _∷_, _++_}
 use mathlib.Core.Bool.{Bool, true, false, cond}
 use lib.Dec.{eqb}
-use lib.ListN.{length, drop, getD, length-drop, drop-of-length-le}
-use lib.Seq.{take-suc, getD-drop}
+use lib.ListN.{length, drop, getD, drop-of-length-le}
 use borrow.Author.Tests.{eq-eqb, ne-eqb}
 use Rattle.text.specs.Bytes.{Text, part}
 use Rattle.text.proofs.Comparing.{drop-at}
+use Rattle.text.proofs.Positions.{part-empty, part-snoc}
 use Rattle.profile.specs.Profile.{push, fields}
 use Rattle.profile.specs.Splitting.{behind, FieldEnd}
-
--- parts
-
-pub part-empty : (s : Text) (a : ℕ) → part s a a ≡ []
-unfolding part
-part-empty s a = rw (sub-self a)
-
-pub part-snoc : (s : Text) (a e : ℕ) → a ≤ e → e < length s → part s a (e + 1) ≡ part s a e ++ (getD s e 0 ∷ [])
-unfolding part
-part-snoc s a e le h =
-    let k : e + 1 - a ≡ suc (e - a) = omega arith in
-    let p : a + (e - a) ≡ e = omega arith in
-    let b : e - a < length (drop a s) = simp length-drop (omega arith) in
-    rw k (rw (take-suc (drop a s) (e - a) 0 b, getD-drop a s (e - a) 0, p))
 
 -- the clauses of the definitions
 
