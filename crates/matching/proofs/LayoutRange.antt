@@ -10,7 +10,7 @@ use lib.Seq.{drop-cons}
 use lib.Dec.{eqb, ltb, leb}
 use borrow.Author.Tests.{eq-eqb, ne-eqb, eqb-false, leb-true, lt-ltb, le-ltb, le-leb, lt-leb}
 use Rattle.text.specs.Bytes.{anyOf}
-use Rattle.text.proofs.Lists.{any-nil}
+use Rattle.text.proofs.Lists.{any-nil, any-cons}
 use Rattle.rules.specs.declared.Column.{Column}
 use Rattle.rules.specs.declared.Column.the-variants as column
 use Rattle.rules.specs.declared.SetHeading.{SetHeading}
@@ -69,10 +69,6 @@ pub layouts-high : (c : ℕ) → 4 ≤ c → false ≡ perLayout (columnBy c)
 layouts-high c h = layouts-not c (omega arith) (omega arith)
 
 -- the first n columns, from i on, are still to be looked at
-
-any-cons : (p : Column → Bool) (c : Column) (cs : List Column) → anyOf p (c ∷ cs) ≡ (p c || anyOf p cs)
-unfolding anyOf
-any-cons p c cs = refl
 
 pub record ColumnsFrom (p : Column → Bool) (xs : List ℕ) (n i : ℕ) : Type 0 where
   pub high : i ≤ n

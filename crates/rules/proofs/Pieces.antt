@@ -2,15 +2,15 @@
 use Prim.Native.Nat.{ℕ, zero, suc, _+_, _-_, _≤_, _<_}
 use native.Mathlib.Omega.{arith}
 use mathlib.Core.Path.{_≡_, refl, sym, _∙_}
-use mathlib.Core.List.{List, [], _∷_}
+use mathlib.Core.List.{[], _∷_}
 use mathlib.Core.Bool.{Bool, true, false, not, _||_, _&&_, cond}
 use mathlib.Core.Logic.{_⊎_, inl, inr, ⊎-elim}
 use lib.ListN.{length, take, drop, getD, length-drop, drop-of-length-le}
 use lib.Seq.{take-all, drop-drop}
 use lib.Dec.{eqb, leb}
 use borrow.Author.Tests.{eqb-true, ne-eqb, le-leb, lt-leb}
-use Rattle.text.specs.Bytes.{Text, anyOf}
-use Rattle.text.proofs.Lists.{and-both, any-nil}
+use Rattle.text.specs.Bytes.{Text}
+use Rattle.text.proofs.Lists.{and-both, any-nil, any-cons}
 use Rattle.text.proofs.Comparing.{drop-at}
 use Rattle.rules.specs.declared.Which.{Which}
 use Rattle.rules.specs.declared.Which.the-variants as which
@@ -216,10 +216,6 @@ pub pieces-item : (b : ℕ) (r : Text) → b ≡ 37 →
     Percent.pieces zero (b ∷ r) ≡ Percent.pieceAfter r ∷ Percent.pieces zero (drop (Percent.pieceLength (Percent.pieceAfter r)) r)
 unfolding Percent.pieces
 pieces-item b r e = rw (e, Percent.pieces) (rw (pieces-skip (Percent.pieceLength (Percent.pieceAfter r)) r) refl)
-
-any-cons : {A : Type 0} (p : A → Bool) (a : A) (r : List A) → anyOf p (a ∷ r) ≡ p a || anyOf p r
-unfolding anyOf
-any-cons p a r = refl
 
 bad-byte : (i : Bool) (b : ℕ) → Percent.badPiece i (Byte b) ≡ false
 unfolding Percent.badPiece

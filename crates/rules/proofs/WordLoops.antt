@@ -8,7 +8,7 @@ use mathlib.Core.Bool.{Bool, true, false, _||_, _&&_, or-assoc, or-false}
 use lib.ListN.{length, getD, take, drop, drop-of-length-le}
 use lib.Seq.{drop-cons}
 use Rattle.text.specs.Bytes.{Text, Words, allOf, anyOf}
-use Rattle.text.proofs.Lists.{any-nil}
+use Rattle.text.proofs.Lists.{any-nil, any-cons}
 use Rattle.rules.specs.Words.{ordinary}
 use Rattle.rules.specs.Percent.{malformed}
 use Rattle.rules.specs.Checking.{rightFault}
@@ -19,10 +19,6 @@ words-at ws j h = rw add-one (drop-cons ws j [] h)
 all-cons : (q : Text → Bool) (w : Text) (ws : Words) → allOf q (w ∷ ws) ≡ (q w && allOf q ws)
 unfolding allOf
 all-cons q w ws = refl
-
-any-cons : (q : Text → Bool) (w : Text) (ws : Words) → anyOf q (w ∷ ws) ≡ (q w || anyOf q ws)
-unfolding anyOf
-any-cons q w ws = refl
 
 all-none : (q : Text → Bool) → allOf q [] ≡ true
 unfolding allOf

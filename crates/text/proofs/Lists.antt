@@ -114,6 +114,10 @@ pub any-nil {ℓ} : {A : Type ℓ} (q : A → Bool) → anyOf q [] ≡ false
 unfolding anyOf
 any-nil q = refl
 
+pub any-cons {ℓ} : {A : Type ℓ} (q : A → Bool) (x : A) (xs : List A) → anyOf q (x ∷ xs) ≡ q x || anyOf q xs
+unfolding anyOf
+any-cons q x xs = refl
+
 -- a test that some text of one list passes, some text of a list that holds all of them passes
 
 found-in : (q : Text → Bool) (x : Text) (b : List Text) → q x ≡ true → anyOf (same x) b ≡ true → anyOf q b ≡ true

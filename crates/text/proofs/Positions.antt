@@ -4,7 +4,7 @@ use native.Mathlib.Nat.{sub-self, add-zero}
 use native.Mathlib.Omega.{arith}
 use mathlib.Core.Path.{_≡_, refl, sym, _∙_}
 use mathlib.Core.List.{List, [], _∷_, _++_, append-nil, append-assoc}
-use mathlib.Core.Bool.{Bool, true, false, _||_, cond}
+use mathlib.Core.Bool.{Bool, true, false, cond}
 use mathlib.Core.Logic.{_⊎_, inl, inr, ⊎-elim}
 use borrow.Author.Tests.{ne-eqb}
 use lib.Dec.{eqb}
@@ -19,7 +19,7 @@ use Rattle.text.specs.Marks.{classOf, Mark, char, gap, join, bang, end, 
 use Rattle.text.specs.Lines.{run, words, feeds, inside, linesOf, lines}
 use Rattle.text.specs.Words.{badByte}
 use Rattle.text.specs.Reading.{left, wordly, inWord, ahead, WordEnd, InWord}
-use Rattle.text.proofs.Lists.{no, any-nil}
+use Rattle.text.proofs.Lists.{no, any-nil, any-cons}
 use Rattle.text.proofs.Comparing.{drop-at}
 
 pub first-drop : (s : List ℕ) (i : ℕ) → first (drop i s) ≡ getD s i 0
@@ -211,10 +211,6 @@ pub record NoneBad (s : List ℕ) (from e i : ℕ) : Type 0 where
   pub low : from ≤ i
   pub high : i ≤ e
   pub rest : anyOf badByte (part s from e) ≡ anyOf badByte (part s i e)
-
-pub any-cons : (b : ℕ) (w : List ℕ) → anyOf badByte (b ∷ w) ≡ badByte b || anyOf badByte w
-unfolding anyOf
-any-cons b w = refl
 
 module _ (s : List ℕ) (from e i : ℕ) (v : NoneBad s from e i) where
   pub none-bad-hit : i < e → e ≤ length s → badByte (getD s i 0) ≡ true → true ≡ anyOf badByte (part s from e)

@@ -21,8 +21,8 @@ use Rattle.text.specs.Marks.{classOf, Mark, char, gap, join, bang, end, 
 use Rattle.text.specs.Lines.{run, words, heading, Line, inside, linesOf, lines}
 use Rattle.text.specs.Words.{badByte, tooLong, wordsFault}
 use Rattle.text.specs.Reading.{left, ahead, follow, faultOf, lower, levelOf, kindOf, Fenced, WordEnd, InWord, PlainEnd, RunEnd, OddWord, CommentEnd, Blanks, Skipped, FoundWord, NoWord, Between, FastWord, PlainFound, PlainWord, ValueWord, ByteWord, NextWord, Opens}
-use Rattle.text.proofs.Lists.{no, and-both, any-nil}
-use Rattle.text.proofs.Positions.{first-drop, part-empty, part-cons, part-snoc, in-word-start, in-word-more, in-word-over, marks-at, step-other, step-feed, comment-words, first-in, any-cons, length-part, lines-char, lines-gap, lines-bang, lines-join, lines-end, lines-nil}
+use Rattle.text.proofs.Lists.{no, and-both, any-nil, any-cons}
+use Rattle.text.proofs.Positions.{first-drop, part-empty, part-cons, part-snoc, in-word-start, in-word-more, in-word-over, marks-at, step-other, step-feed, comment-words, first-in, length-part, lines-char, lines-gap, lines-bang, lines-join, lines-end, lines-nil}
 use Rattle.text.proofs.ByteKinds.{pick, not-bad, plain-in-word, kind-one, kind-stop, Begins, begins-char, kind-zero, join-class, note-class, bang-class, differ}
 
 -- plain bytes
