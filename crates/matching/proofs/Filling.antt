@@ -3,7 +3,7 @@ use Prim.Native.Nat.{ℕ, zero, suc, _+_, _*_, _-_, _≤_, _<_}
 use native.Mathlib.Omega.{arith}
 use mathlib.Core.Path.{_≡_, refl, sym, ap, _∙_}
 use mathlib.Core.List.{List, [], _∷_}
-use mathlib.Core.Bool.{Bool, true, false, _||_, cond, or-assoc, or-false}
+use mathlib.Core.Bool.{Bool, true, false, _||_, cond, or-assoc, or-true, or-false}
 use lib.ListN.{length, getD, set, drop, length-set}
 use lib.Seq.{getD-set-same, getD-set-other}
 use lib.Dec.{eqb, leb, ltb}
@@ -144,10 +144,6 @@ module _ (rows : List Bool) (g : ℕ) where
     pub clearing-end : 10 ≤ j → Cleared rows rows′ g
     clearing-end h = record { size = v .size; old = v .old; new = λ i l. v .done i (omega arith) }
 
-or-yes : (a : Bool) → true ≡ (a || true)
-or-yes true = refl
-or-yes false = refl
-
 either-way : {C : Type 0} (i j : ℕ) → (i < j → C) → (j ≤ i → C) → C
 either-way {C = C} i j f h = go (ltb i j) refl
   where
@@ -162,7 +158,7 @@ module _ (rows : List Bool) (g j : ℕ) where
       record {
         size = put-size rows g j true z;
         old = λ i m. put-before rows g j true i m;
-        this = put-here rows g j true z h l ∙ rw t (or-yes (getD rows (10 * g + j) false));
+        this = put-here rows g j true z h l ∙ rw t (sym (or-true (getD rows (10 * g + j) false)));
         other = λ i n. put-other rows g j true i n;
       }
 
@@ -198,7 +194,7 @@ module _ (p : Profile) (ms : Words) (rows : List Bool) (g : ℕ) where
             put-other rows′ g j true i (λ (z : i ≡ j). omega arith) ∙ v .done i k
         go i m false e =
             let k : i ≡ j = omega (arith, ltb-false i j e) in
-            rw (k, a) (put-here rows′ g j true (v .size) h l ∙ or-yes (getD rows (10 * g + j) false))
+            rw (k, a) (put-here rows′ g j true (v .size) h l ∙ sym (or-true (getD rows (10 * g + j) false)))
 
     pub marking-no : j < 10 → asked p j ms ≡ false → Marking p ms rows rows′ g (j + 1)
     marking-no l a =
