@@ -96,9 +96,9 @@ pub copy-long : (d d₁ x : Text) (b at o i y j z : ℕ) → d₁ ≡ stored (se
 copy-long d d₁ x b at o i y j z e =
     length-set (set d₁ i y) j z ∙ (length-set d₁ i y ∙ (ap length e ∙ (length-stored (set d at b) o x ∙ length-set d at b)))
 
-pub copy-inside : (d d₁ : Text) (b : ℕ) (t : Text) (at : ℕ) → at + length t + 3 ≤ length d → d₁ ≡ stored (set d at b) (at + 1) (part t 0 (length t)) →
+pub colon-digit-inside : (d d₁ : Text) (b : ℕ) (t : Text) (at : ℕ) → at + length t + 3 ≤ length d → d₁ ≡ stored (set d at b) (at + 1) (part t 0 (length t)) →
     (at + length t + 1 < length d₁) × (at + length t + 2 < length (set d₁ (at + length t + 1) 58))
-copy-inside d d₁ b t at h x =
+colon-digit-inside d d₁ b t at h x =
     let e : length d₁ ≡ length d = ap length x ∙ (length-stored (set d at b) (at + 1) (part t 0 (length t)) ∙ length-set d at b) in
     (omega arith, omega (arith, length-set d₁ (at + length t + 1) 58))
 

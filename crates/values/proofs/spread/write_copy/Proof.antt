@@ -2,7 +2,7 @@ use borrow.Author.Needs.{needs}
 use native.Mathlib.Omega.{arith}
 use mathlib.Core.Path.{refl}
 use lib.ListN.{length-set}
-use Rattle.values.proofs.Copying.{copy-written, copy-inside, copy-long}
+use Rattle.values.proofs.Copying.{copy-written, colon-digit-inside, copy-long}
 use Rattle.values.proofs.spread.write_copy.Statement.{statement}
 use Rattle.values.proofs.spread.write_copy.Tie as tie
 use Rattle.values.proofs.spread.write_copy.Reads as reads
@@ -24,7 +24,7 @@ add-out-2 : tie.Need-add-out-2
 add-out-2 c = search needs
 
 slice-write-out-2 : tie.Need-slice-write-out-2
-slice-write-out-2 c = copy-inside (c .before .before .before .before .before .before .args .out .now) _ (c .before .before .before .before .before .before .args .sign) (c .before .before .before .before .before .before .args .rest .now) (c .before .before .before .before .before .before .args .at) (c .before .before .before .before .before .before .pre .3) (c .before .before .copy .ensures) .0
+slice-write-out-2 c = colon-digit-inside (c .before .before .before .before .before .before .args .out .now) _ (c .before .before .before .before .before .before .args .sign) (c .before .before .before .before .before .before .args .rest .now) (c .before .before .before .before .before .before .args .at) (c .before .before .before .before .before .before .pre .3) (c .before .before .copy .ensures) .0
 
 add-out-3 : tie.Need-add-out-3
 add-out-3 c = search needs
@@ -39,7 +39,7 @@ add-out-5 : tie.Need-add-out-5
 add-out-5 c = search needs
 
 slice-write-out-3 : tie.Need-slice-write-out-3
-slice-write-out-3 c = copy-inside (c .before .before .before .before .before .before .args .out .now) _ (c .before .before .before .before .before .before .args .sign) (c .before .before .before .before .before .before .args .rest .now) (c .before .before .before .before .before .before .args .at) (c .before .before .before .before .before .before .pre .3) (c .before .before .copy .ensures) .1
+slice-write-out-3 c = colon-digit-inside (c .before .before .before .before .before .before .args .out .now) _ (c .before .before .before .before .before .before .args .sign) (c .before .before .before .before .before .before .args .rest .now) (c .before .before .before .before .before .before .args .at) (c .before .before .before .before .before .before .pre .3) (c .before .before .copy .ensures) .1
 
 add-result : tie.Need-add-result
 add-result c = search needs
