@@ -5,13 +5,13 @@ use native.Mathlib.Numerals.{add-one}
 use mathlib.Core.Path.{_≡_, refl, sym, ap, _∙_}
 use mathlib.Core.List.{List, [], _∷_, _++_}
 use mathlib.Core.Bool.{Bool, true, false}
-use lib.ListN.{length, take, drop, getD, length-drop}
+use lib.ListN.{length, take, drop, getD, length-drop, drop-of-length-le}
 use lib.Seq.{drop-cons}
 use lib.Dec.{ltb}
 use borrow.Author.Tests.{ltb-false}
 use Rattle.text.specs.Bytes.{Text, Words, part, anyOf, concatMap}
 use Rattle.text.specs.Words.{tooLong}
-use Rattle.text.specs.Reading.{left, FoundWord, NoWord}
+use Rattle.text.specs.Reading.{left, FoundWord, NoWord, Passed}
 use Rattle.text.proofs.Lists.{neither, any-drop}
 use Rattle.text.proofs.Passing.{Passing, passing-start, passing-word, passing-stop, passing-then}
 use Rattle.profile.specs.Profile.{Profile, fields, textsOf, profileOf}
@@ -100,6 +100,16 @@ module _ (p : Profile) (s : Text) (from n : ℕ) (d₀ : Text) (q₀ : Cursors) 
                 going-more d₀ q₀ _ d q _ _ d′ q′ (rw y at (v .going x)) (g .bytes x k) (g .places x k);
           }
 
+    -- all words have fired, and the rest of the line is passed over
+    pub words-passed : length (left s from) ≤ j → (r l : ℕ) → Passed s i m r l → FiredLine p cs (left s from) s from n d₀ d q₀ k (record { fired = true; at = r; line = l; cursors = q })
+    words-passed h r l w = record { told = refl; fires = record { bytes = λ x. over x .0; places = λ x. over x .1 }; passed = passing-then s from n i m (v .passing) r l w }
+      where
+        none : left s i ≡ []
+        none = let z : length (left s i) ≤ 0 = omega (arith, v .count) in drop-of-length-le (left s i) z
+
+        over : (x : ℕ) → (d ≡ runBuf d₀ q₀ (ruleFires p x k cs (left s from))) × (q ≡ runCur q₀ (ruleFires p x k cs (left s from)))
+        over x = going-end d₀ q₀ _ d q (rw (none, fires-none p x k (drop j cs)) at (v .going x))
+
     pub words-end : (r l : ℕ) → NoWord s i m r l → FiredLine p cs (left s from) s from n d₀ d q₀ k (record { fired = true; at = r; line = l; cursors = q })
     words-end r l w = record { told = refl; fires = record { bytes = λ x. over x .0; places = λ x. over x .1 }; passed = passing-stop s from n i m (v .passing) r l w }
       where
@@ -116,8 +126,8 @@ module _ (s : Text) (from n : ℕ) where
   behind-none a b r l w = record { low = omega arith; high = a; few = b; text = rw (w .none) refl; onto = refl }
 
   module _ (i m : ℕ) (v : BehindFirst s from n i m) where
-    pub behind-count : length (left s from) ≤ 6 → length (left s i) ≤ 5
-    behind-count h = rw (v .text) (omega (arith, length-drop 1 (left s from)))
+    pub behind-count : (c : ℕ) → length (left s from) ≡ 1 + c → length (left s i) ≡ c
+    behind-count c h = ap length (v .text) ∙ (length-drop 1 (left s from) ∙ omega arith)
 
     pub behind-short : ShortWords (left s from) → ShortWords (left s i)
     behind-short h = rw (v .text) (any-drop tooLong 1 (left s from) h)

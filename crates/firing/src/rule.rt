@@ -1,7 +1,7 @@
 // The values of a rule that matches, fired.
 ghost use mathlib.Core.Path.{_≡_};
 ghost use mathlib.Core.List.{[]};
-ghost use Prim.Native.Nat.{_*_, _≤_, _<_};
+ghost use Prim.Native.Nat.{_*_, _+_, _≤_, _<_};
 ghost use lib.ListN.{length, drop};
 ghost use Rattle.text.specs.Reading.{Within, left};
 ghost use Rattle.output.specs.Store.{farthest};
@@ -16,6 +16,7 @@ use super::RuleRun;
 use super::writing::fire;
 use text::LineStart;
 use text::Next;
+use text::reader::pass_line;
 use text::reader::word_at;
 use values::fill::fill_value;
 use values::fill::has_percent;
@@ -66,13 +67,14 @@ fn behind_first(s: &[u8], t: &[u8; 512], fence: usize, from: usize, line: usize)
     }
 }
 
-// The words of a line from `from` on, for the components in turn, at the layout k.
+// The words of a line from `from` on, which are `count`, for the components in turn, at the layout k.
 fn fire_words(
     s: &[u8],
     t: &[u8; 512],
     fence: usize,
     from: usize,
     line: usize,
+    count: usize,
     components: [usize; 5],
     model: &[u8],
     layouts: &[u8],
@@ -84,7 +86,7 @@ fn fire_words(
     buf: &mut [u8],
     q: Cursors,
 ) -> RuleRun
-    requires { ⌜ Within (now s) (now t) fence from line × (length (left (now s) from) ≤ 5) × ShortWords (left (now s) from)
+    requires { ⌜ Within (now s) (now t) fence from line × (length (left (now s) from) ≡ count) × (count ≤ 5) × ShortWords (left (now s) from)
         × (n ≡ length (fields (now layouts))) × (1 ≤ n) × (n < 10) × (k < 100) × Short (now model) (now layouts) (now variants)
         × (8192 ≤ length (now scratch)) × (length (now scratch) ≤ farthest) × (length (now buf) ≤ farthest) × Low (q .at)
         × Bounds (now layouts) (now variants) (now bounds) ⌝ }
@@ -95,7 +97,7 @@ fn fire_words(
     let mut i = from;
     let mut l = line;
     let mut j: usize = 0;
-    loop {
+    while j < count {
         match word_at(s, t, fence, i, l) {
             Next::Found {
                 start,
@@ -130,15 +132,23 @@ fn fire_words(
             }
         }
     }
+    let e = pass_line(s, t, fence, i, l);
+    RuleRun {
+        fired: true,
+        at: e.at,
+        line: e.line,
+        cursors: m,
+    }
 }
 
-// A rule's line from its `=` on, which stands behind `from`: its right words fire for the components in turn, at the layout k.
+// A rule's line from its `=` on, which stands behind `from`: its right words, which are `count`, fire for the components in turn, at the layout k.
 pub fn fire_line(
     s: &[u8],
     t: &[u8; 512],
     fence: usize,
     from: usize,
     line: usize,
+    count: usize,
     components: [usize; 5],
     model: &[u8],
     layouts: &[u8],
@@ -150,7 +160,7 @@ pub fn fire_line(
     buf: &mut [u8],
     q: Cursors,
 ) -> RuleRun
-    requires { ⌜ Within (now s) (now t) fence from line × (length (left (now s) from) ≤ 6) × ShortWords (left (now s) from)
+    requires { ⌜ Within (now s) (now t) fence from line × (length (left (now s) from) ≡ 1 + count) × (count ≤ 5) × ShortWords (left (now s) from)
         × (n ≡ length (fields (now layouts))) × (1 ≤ n) × (n < 10) × (k < 100) × Short (now model) (now layouts) (now variants)
         × (8192 ≤ length (now scratch)) × (length (now scratch) ≤ farthest) × (length (now buf) ≤ farthest) × Low (q .at)
         × Bounds (now layouts) (now variants) (now bounds) ⌝ }
@@ -164,6 +174,7 @@ pub fn fire_line(
         fence,
         e.at,
         e.line,
+        count,
         components,
         model,
         layouts,

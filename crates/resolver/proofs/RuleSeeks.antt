@@ -174,11 +174,8 @@ module _ (p : Profile) (gs : Groups) (h : Heading) (k : ℕ) (ns : List Text) (s
 module _ (h : SetHeading) (p : Profile) (gs : Groups) (k : ℕ) (ns : List Text) (s : Text) (at n : ℕ) (x : LeftWord) (w : SetSized h)
     (v : MatchedRule p gs (headingBy h) k ns s at n x) where
   -- behind the left words stand `=` and as many words as the heading asks
-  words-behind : length (left s (x .at)) ≡ 1 + h .right
+  pub words-behind : length (left s (x .at)) ≡ 1 + h .right
   words-behind = v .count ∙ rw (components-length h w)
-
-  pub few-behind : length (left s (x .at)) ≤ 6
-  few-behind = omega (arith, words-behind, w .right)
 
   pub right-count : length (drop 1 (left s (x .at))) ≡ h .right
   right-count = length-drop 1 (left s (x .at)) ∙ omega (arith, words-behind)

@@ -205,6 +205,7 @@ fn run_rule(
         fence,
         x.at,
         x.line,
+        h.right,
         components,
         model,
         layouts,

@@ -1,29 +1,30 @@
-use borrow.Author.Needs.{needs}
-use Rattle.firing.proofs.ValueFires.{WordsGoing, words-start, word-fits, words-few, words-more, words-end}
-use Rattle.profile.specs.Profile.{textsOf, profileOf}
-use Rattle.text.proofs.Readers.{found, stopped}
-use Rattle.text.specs.Bytes.{part}
-use lib.ListN.{length}
-use mathlib.Core.List.{[]}
-use mathlib.Core.Path.{_≡_, refl, _∙_}
-use native.Mathlib.Omega.{arith}
 use Prim.Native.Nat.{_-_}
+use native.Mathlib.Omega.{arith}
+use mathlib.Core.Path.{_≡_, refl, _∙_}
+use mathlib.Core.List.{[]}
+use lib.ListN.{length}
+use Rattle.text.specs.Bytes.{part}
+use Rattle.text.proofs.Readers.{found, stopped}
+use Rattle.profile.specs.Profile.{textsOf, profileOf}
+use Rattle.firing.proofs.ValueFires.{WordsGoing, words-start, word-fits, words-few, words-more, words-passed, words-end}
+use borrow.Author.Needs.{needs}
 use Rattle.firing.proofs.rule.fire_words.Statement.{statement}
 use Rattle.firing.proofs.rule.fire_words.Tie as tie
 use Rattle.firing.proofs.rule.fire_value.Reads as fire-value-reads
+use Rattle.text.proofs.reader.pass_line.Reads as pass-line-reads
 use Rattle.text.proofs.reader.word_at.Reads as word-at-reads
 
 abbrev Inv-loop : tie.InvT-loop
-Inv-loop s t fence from line model layouts variants bounds n k scratch₀ buf₀ components m₀ i₀ l₀ j₀ scratch buf m i l j = WordsGoing (profileOf (textsOf model layouts variants [])) s from line buf₀ m₀ k components buf m i l j × (length scratch ≡ length scratch₀) × (length buf ≡ length buf₀)
+Inv-loop s t fence from line count model layouts variants bounds n k scratch₀ buf₀ components m₀ i₀ l₀ j₀ scratch buf m i l j = WordsGoing (profileOf (textsOf model layouts variants [])) s from line buf₀ m₀ k components buf m i l j × (length scratch ≡ length scratch₀) × (length buf ≡ length buf₀)
 
 abbrev μ-loop : tie.MeasureT-loop
-μ-loop s t fence from line model layouts variants bounds n k scratch₀ buf₀ components m₀ i₀ l₀ j₀ scratch buf m i l j = length s - i
+μ-loop s t fence from line count model layouts variants bounds n k scratch₀ buf₀ components m₀ i₀ l₀ j₀ scratch buf m i l j = length s - i
 
 loop-holds : tie.Need-loop-holds Inv-loop μ-loop
-loop-holds c = (words-start _ _ _ _ _ _ _ _ (c .before .before .before .before .before .before .pre .0 .high) (c .before .before .before .before .before .before .pre .0 .few) (c .before .before .before .before .before .before .pre .2) (c .before .before .before .before .before .before .pre .11), refl, refl)
+loop-holds c = (words-start _ _ _ _ _ _ _ _ (c .before .before .before .before .before .before .pre .0 .high) (c .before .before .before .before .before .before .pre .0 .few) (c .before .before .before .before .before .before .pre .3) (c .before .before .before .before .before .before .pre .12), refl, refl)
 
 word-at-requires : tie.Need-word-at-requires Inv-loop μ-loop
-word-at-requires c κs = record { high = c .loop .inv .0 .passing .high; few = c .loop .inv .0 .passing .few; table = c .before .before .before .before .before .before .before .pre .0 .table; fenced = c .before .before .before .before .before .before .before .pre .0 .fenced }
+word-at-requires c κs = record { high = c .before .loop .inv .0 .passing .high; few = c .before .loop .inv .0 .passing .few; table = c .before .before .before .before .before .before .before .before .pre .0 .table; fenced = c .before .before .before .before .before .before .before .before .pre .0 .fenced }
 
 enum-known-start : tie.Need-enum-known-start Inv-loop μ-loop
 enum-known-start c = search needs
@@ -41,11 +42,11 @@ mul-fire-value : tie.Need-mul-fire-value Inv-loop μ-loop
 mul-fire-value c = search needs
 
 array-read-fire-value : tie.Need-array-read-fire-value Inv-loop μ-loop
-array-read-fire-value c = words-few _ _ _ _ _ _ _ _ _ _ _ _ _ (c .before .before .before .before .before .loop .inv .0) _ _ _ _ (found _ _ _ _ _ _ _ _ (c .before .before .start .given .1) (c .before .before .before .before .word-at .ensures)) (c .before .before .before .before .before .before .before .before .before .before .before .before .pre .1)
+array-read-fire-value c = words-few _ _ _ _ _ _ _ _ _ _ _ _ _ (c .before .before .before .before .before .before .loop .inv .0) _ _ _ _ (found _ _ _ _ _ _ _ _ (c .before .before .start .given .1) (c .before .before .before .before .word-at .ensures)) (omega (arith, c .before .before .before .before .before .before .before .before .before .before .before .before .before .pre .1, c .before .before .before .before .before .before .before .before .before .before .before .before .before .pre .2))
 
 fire-value-requires : tie.Need-fire-value-requires Inv-loop μ-loop
 unfolding part
-fire-value-requires c κs = (c .before .before .before .before .before .before .before .before .before .before .before .before .before .before .pre .3, c .before .before .before .before .before .before .before .before .before .before .before .before .before .before .pre .4, c .before .before .before .before .before .before .before .before .before .before .before .before .before .before .pre .5, c .before .before .before .before .before .before .before .before .before .before .before .before .before .before .pre .6, c .before .before .before .before .before .before .before .before .before .before .before .before .before .before .pre .7, omega (arith, word-fits _ _ _ _ _ _ _ _ _ _ _ _ _ (c .before .before .before .before .before .before .before .loop .inv .0) _ _ _ _ (found _ _ _ _ _ _ _ _ (c .before .before .before .before .start .given .1) (c .before .before .before .before .before .before .word-at .ensures)), c .before .before .before .before .before .before .before .loop .inv .1, c .before .before .before .before .before .before .before .before .before .before .before .before .before .before .pre .8), omega (arith, c .before .before .before .before .before .before .before .loop .inv .1, c .before .before .before .before .before .before .before .before .before .before .before .before .before .before .pre .9), omega (arith, c .before .before .before .before .before .before .before .loop .inv .2, c .before .before .before .before .before .before .before .before .before .before .before .before .before .before .pre .10), c .before .before .before .before .before .before .before .loop .inv .0 .going 0 .low, c .before .before .before .before .before .before .before .before .before .before .before .before .before .before .pre .12)
+fire-value-requires c κs = (c .before .before .before .before .before .before .before .before .before .before .before .before .before .before .before .pre .4, c .before .before .before .before .before .before .before .before .before .before .before .before .before .before .before .pre .5, c .before .before .before .before .before .before .before .before .before .before .before .before .before .before .before .pre .6, c .before .before .before .before .before .before .before .before .before .before .before .before .before .before .before .pre .7, c .before .before .before .before .before .before .before .before .before .before .before .before .before .before .before .pre .8, omega (arith, word-fits _ _ _ _ _ _ _ _ _ _ _ _ _ (c .before .before .before .before .before .before .before .before .loop .inv .0) _ _ _ _ (found _ _ _ _ _ _ _ _ (c .before .before .before .before .start .given .1) (c .before .before .before .before .before .before .word-at .ensures)), c .before .before .before .before .before .before .before .before .loop .inv .1, c .before .before .before .before .before .before .before .before .before .before .before .before .before .before .before .pre .9), omega (arith, c .before .before .before .before .before .before .before .before .loop .inv .1, c .before .before .before .before .before .before .before .before .before .before .before .before .before .before .before .pre .10), omega (arith, c .before .before .before .before .before .before .before .before .loop .inv .2, c .before .before .before .before .before .before .before .before .before .before .before .before .before .before .before .pre .11), c .before .before .before .before .before .before .before .before .loop .inv .0 .going 0 .low, c .before .before .before .before .before .before .before .before .before .before .before .before .before .before .before .pre .13)
 
 add-j : tie.Need-add-j Inv-loop μ-loop
 add-j c = search needs
@@ -55,7 +56,7 @@ loop-less c = let u = found _ _ _ _ _ _ _ _ (c .before .before .before .before .
 
 loop-again : tie.Need-loop-again Inv-loop μ-loop
 unfolding part
-loop-again c = (words-more _ _ _ _ _ _ _ _ _ _ _ _ _ (c .before .before .before .before .before .before .before .before .before .before .before .before .loop .inv .0) _ _ _ _ (found _ _ _ _ _ _ _ _ (c .before .before .before .before .before .before .before .before .before .start .given .1) (c .before .before .before .before .before .before .before .before .before .before .before .word-at .ensures)) (c .before .before .before .before .before .before .before .before .before .before .before .before .before .before .before .before .before .before .before .good .1 .1 .1 .1 .1 .0 .1 .0 .1) (c .before .before .before .before .before .before .before .before .before .before .before .before .before .before .before .before .before .before .before .pre .1) _ _ (c .before .before .before .before .fire-value .ensures), c .before .before .before .before .fire-value .kept .1 .1 .1 .1 .1 .1 .1 .1 .0 ∙ c .before .before .before .before .before .before .before .before .before .before .before .before .loop .inv .1, c .before .before .before .before .fire-value .kept .1 .1 .1 .1 .1 .1 .1 .1 .1 .0 ∙ c .before .before .before .before .before .before .before .before .before .before .before .before .loop .inv .2)
+loop-again c = (words-more _ _ _ _ _ _ _ _ _ _ _ _ _ (c .before .before .before .before .before .before .before .before .before .before .before .before .before .loop .inv .0) _ _ _ _ (found _ _ _ _ _ _ _ _ (c .before .before .before .before .before .before .before .before .before .start .given .1) (c .before .before .before .before .before .before .before .before .before .before .before .word-at .ensures)) (c .before .before .before .before .before .before .before .before .before .before .before .before .before .before .before .before .before .before .before .before .good .1 .1 .1 .1 .1 .1 .0 .1 .0 .1) (omega (arith, c .before .before .before .before .before .before .before .before .before .before .before .before .before .before .before .before .before .before .before .before .pre .1, c .before .before .before .before .before .before .before .before .before .before .before .before .before .before .before .before .before .before .before .before .pre .2)) _ _ (c .before .before .before .before .fire-value .ensures), c .before .before .before .before .fire-value .kept .1 .1 .1 .1 .1 .1 .1 .1 .0 ∙ c .before .before .before .before .before .before .before .before .before .before .before .before .before .loop .inv .1, c .before .before .before .before .fire-value .kept .1 .1 .1 .1 .1 .1 .1 .1 .1 .0 ∙ c .before .before .before .before .before .before .before .before .before .before .before .before .before .loop .inv .2)
 
 enum-known-next : tie.Need-enum-known-next Inv-loop μ-loop
 enum-known-next c = search needs
@@ -67,7 +68,19 @@ same-length-2 : tie.Need-same-length-2 Inv-loop μ-loop
 same-length-2 c = search needs
 
 returns : tie.Need-returns Inv-loop μ-loop
-returns c = words-end _ _ _ _ _ _ _ _ _ _ _ _ _ (c .before .before .before .before .loop .inv .0) _ _ (stopped _ _ _ _ _ _ (c .before .next .given .1) (c .before .before .before .word-at .ensures))
+returns c = words-end _ _ _ _ _ _ _ _ _ _ _ _ _ (c .before .before .before .before .before .loop .inv .0) _ _ (stopped _ _ _ _ _ _ (c .before .next .given .1) (c .before .before .before .word-at .ensures))
+
+pass-line-requires : tie.Need-pass-line-requires Inv-loop μ-loop
+pass-line-requires c κs = search needs
+
+same-length-3 : tie.Need-same-length-3 Inv-loop μ-loop
+same-length-3 c = search needs
+
+same-length-4 : tie.Need-same-length-4 Inv-loop μ-loop
+same-length-4 c = search needs
+
+returns-2 : tie.Need-returns-2 Inv-loop μ-loop
+returns-2 c = words-passed _ _ _ _ _ _ _ _ _ _ _ _ _ (c .before .before .loop .inv .0) (omega (arith, c .before .before .before .before .before .before .before .before .before .pre .1, c .before .loop-test .left)) _ _ (c .pass-line .ensures)
 
 pub fire-words-spec : {M : Type 1} → statement M
 fire-words-spec =
@@ -90,4 +103,8 @@ fire-words-spec =
     enum-known-next
     same-length
     same-length-2
-    returns)
+    returns
+    pass-line-requires
+    same-length-3
+    same-length-4
+    returns-2)
