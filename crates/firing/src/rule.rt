@@ -122,6 +122,7 @@ fn fire_words(
                 l = line;
                 j += 1;
             }
+            // not met, as there are `count` words
             Next::Stop { next, line } => {
                 return RuleRun {
                     fired: true,

@@ -25,7 +25,7 @@ byThen f q a b = cond (eqb (f a) (f b)) (q a b) (ltb (f a) (f b))
 unfoldable pub shorter : Text → Text → Bool
 shorter a b = byThen length lower a b
 
--- the key of a name: its first byte, its last and its middle one. Two names of at most three bytes have one key only if they are one.
+-- the key of a name: its first byte, its last and its middle one. Two names of one length, of at most three bytes, have one key only if they are one.
 unfoldable pub keyOf : Text → ℕ
 keyOf w = getD w 0 0 * 65536 + getD w (length w - 1) 0 * 256 + getD w (length w / 2) 0
 

@@ -1,5 +1,4 @@
-// A table of at most 64 names: start and end of each in the text, as they came, and from 128 on their numbers in the order
-// of the names, and from 192 on their keys.
+// A table of at most 64 names: start and end of each in the text, as they came; from 128 on their numbers in the order of the names; from 192 on their keys.
 ghost use mathlib.Core.Path.{_≡_};
 ghost use Prim.Native.Nat.{_≤_, _<_, _-_};
 ghost use lib.ListN.{length};
