@@ -5,7 +5,7 @@
    `texts` and `sheet` are written: they must not overlap each other or any other slice of the call. The others are only read, and may overlap.
 
    The functions keep no state between calls, allocate nothing and lock nothing, so any number of threads may call them at once, each with its own
-   `texts` and `sheet`. They always return. They use about 30 KiB of stack.
+   `texts` and `sheet`. They always return. They use about 32 KiB of stack.
 
    An example:
 

@@ -95,7 +95,7 @@ pub record FiredLine (p : Profile) (cs : List ℕ) (ws : Words) (s : Text) (from
   pub fires : FiredRule p d d′ q (r .cursors) k cs ws
   pub passed : Passed s from n (r .at) (r .line)
 
--- behind the first word of a line from `from` on, which lies in the physical line n; or there, where it has none
+-- a place between the first word of a line from `from` on, which lies in the physical line n, and its second; or before its end, if it has none
 pub record BehindFirst (s : Text) (from n i m : ℕ) : Type 0 where
   pub low : from ≤ i
   pub high : i ≤ length s

@@ -51,7 +51,7 @@ fn fire_value(
     fire(&scratch[0..length], n, component, buf, q)
 }
 
-// Behind the first word of a line from `from` on; there, where it has none.
+// Behind the first word of a line from `from` on; at `from` itself, if it has none.
 fn behind_first(s: &[u8], t: &[u8; 512], fence: usize, from: usize, line: usize) -> LineStart
     requires { ⌜ Within (now s) (now t) fence from line ⌝ }
     ensures { λ r. ⌜ BehindFirst (now (s .entry)) from line (r .at) (r .line) ⌝ }
@@ -67,7 +67,7 @@ fn behind_first(s: &[u8], t: &[u8; 512], fence: usize, from: usize, line: usize)
     }
 }
 
-// The words of a line from `from` on, which are `count`, for the components in turn, at the layout k.
+// The words of a line from `from` on, which are `count`, fire for the components in turn, at the layout k.
 fn fire_words(
     s: &[u8],
     t: &[u8; 512],

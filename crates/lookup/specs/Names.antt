@@ -18,18 +18,19 @@ lower [] (c ∷ t) = true
 lower (b ∷ s) [] = false
 lower (b ∷ s) (c ∷ t) = cond (eqb b c) (lower s t) (ltb b c)
 
--- by a number, and where that is one by q
+-- by the number f, and where both have the same by q
 unfoldable pub byThen : (Text → ℕ) → (Text → Text → Bool) → Text → Text → Bool
 byThen f q a b = cond (eqb (f a) (f b)) (q a b) (ltb (f a) (f b))
 
+-- the shorter first, and those of one length byte by byte
 unfoldable pub shorter : Text → Text → Bool
 shorter a b = byThen length lower a b
 
--- the key of a name: its first byte, its last and its middle one. Two names of one length, of at most three bytes, have one key only if they are one.
+-- the key of a name: its first byte, its last and its middle one. Two names of one length, of at most three bytes, have the same key only if they are the same.
 unfoldable pub keyOf : Text → ℕ
 keyOf w = getD w 0 0 * 65536 + getD w (length w - 1) 0 * 256 + getD w (length w / 2) 0
 
--- the order: by the keys, and where these are one the shorter first
+-- the order: by the keys, and where these are the same the shorter first
 unfoldable pub before : Text → Text → Bool
 before a b = byThen keyOf shorter a b
 

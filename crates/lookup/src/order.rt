@@ -36,7 +36,7 @@ fn three(a: u8, b: u8, c: u8) -> usize
     a as usize * 65536 + b as usize * 256 + c as usize
 }
 
-// The key of a name: most are told apart by it.
+// The key of a name, of its first byte, its last and its middle one: most are told apart by it.
 pub fn key_of(w: &[u8]) -> usize
     ensures { λ r. ⌜ r ≡ keyOf (now (w .entry)) ⌝ }
 {

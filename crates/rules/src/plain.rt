@@ -39,7 +39,7 @@ fn left_end(s: &[u8], t: &[u8; 512], fence: usize, from: usize, n: usize) -> usi
     at
 }
 
-// A right word with percent signs.
+// A right word with percent signs, or one that begins with a slash.
 fn percent_word(s: &[u8], t: &[u8; 512], fence: usize, from: usize, indexed: bool) -> usize
     requires { ⌜ (from < fence) × (Table (now t) × Fenced (now s) fence) ⌝ }
     ensures { λ r. ⌜ ((r ≡ 0 → ⊥) → RightWord (now (s .entry)) fence indexed from r) ⌝ }

@@ -185,9 +185,11 @@ fn names(list: &mut Vec<Case>) {
         .chain("_-".chars())
         .collect();
     let letter = |i: usize| letters[i];
-    let makers: [&dyn Fn(usize) -> String; 5] = [
+    let makers: [&dyn Fn(usize) -> String; 6] = [
         &|i| letter(i).to_string(),
         &|i| format!("a{}a", letter(i)),
+        // first, last and middle byte alike
+        &|i| format!("a{}aa", letter(i)),
         &|i| format!("{}aaaaaaaa", letter(i)),
         &|i| format!("aaaaaaaa{}", letter(i)),
         &|i| x(i % 12 + 1) + &letter(i / 12).to_string(),
