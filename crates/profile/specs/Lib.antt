@@ -4,3 +4,4 @@ pub mod Options
 pub mod Splitting
 pub mod Bounds
 pub mod Listing
+pub mod Places
