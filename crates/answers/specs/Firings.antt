@@ -38,6 +38,13 @@ setFires every look p h k (r ∷ rs) =
     let now = ruleFires p (r .number) k (h .components) (rightWords h (r .text)) in
     cond (ruleMatches look p k (h .columns) (r .text)) (now ++ cond every more []) more
 
+-- #105: "In a set with an option column and a range, take rule by rule, and for each rule the layouts in ascending order": the rules of a set at some layouts.
+unfoldable pub ruleByRule : (Text → Words) → Profile → Heading → List ℕ → List Rule → List Firing
+ruleByRule look p h ks [] = []
+ruleByRule look p h ks (r ∷ rs) =
+    let more = ruleByRule look p h ks rs in
+    concatMap (λ k. cond (ruleMatches look p k (h .columns) (r .text)) (ruleFires p (r .number) k (h .components) (rightWords h (r .text))) []) ks ++ more
+
 -- "For a range the whole set is run for each of its layouts in ascending order"
 unfoldable pub headFires : Groups → Profile → Head → List Rule → List Firing
 headFires gs p (bad k) rs = []
