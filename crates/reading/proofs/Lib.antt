@@ -1,0 +1,2 @@
+pub mod LineFires
+pub mod Owing

@@ -1,0 +1,46 @@
+-- What is still to fire at a line: of the set that is being read, and of all that follows.
+use Prim.Native.Nat.{ℕ}
+use mathlib.Core.List.{List, [], _∷_, _++_}
+use mathlib.Core.Bool.{Bool, false, cond}
+use Rattle.text.specs.Bytes.{Text, Words, concatMap}
+use Rattle.text.specs.Lines.{Line}
+use Rattle.profile.specs.Profile.{Profile}
+use Rattle.rules.specs.Headings.{Heading, upFrom}
+use Rattle.rules.specs.Sections.{Rule}
+use Rattle.rules.specs.Faults.{Groups, rightWords}
+use Rattle.answers.specs.Matching.{members}
+use Rattle.answers.specs.Firings.{Firing, ruleFires, setFires, ruleByRule}
+use Rattle.bitsets.specs.Sets.{isIn}
+use Rattle.matching.specs.Held.{headingBy}
+use Rattle.reading.specs.declared.OpenSet.{OpenSet}
+use Rattle.reading.specs.Order.{rulesFrom, firingsFrom}
+
+-- the rule that is kept for each layout
+abbrev pub Kept : Type 0
+Kept = ℕ → Rule
+
+abbrev pub layoutsIn : OpenSet → List ℕ
+layoutsIn o = upFrom (o .count) (o .first)
+
+-- a rule fired at a layout
+unfoldable pub firesAt : Profile → Heading → Rule → ℕ → List Firing
+firesAt p h r k = ruleFires p (r .number) k (h .components) (rightWords h (r .text))
+
+-- at a layout that still wants a rule: what the rules from here on fire; at any other: what the kept rule fires
+unfoldable pub owedAt : (Text → Words) → Profile → Heading → ℕ → Kept → List Rule → ℕ → List Firing
+owedAt look p h wanted kept rs k = cond (isIn k wanted) (setFires false look p h k rs) (firesAt p h (kept k) k)
+
+-- what the set still fires
+unfoldable pub setOwes : (Text → Words) → Profile → OpenSet → Kept → List Rule → List Firing
+setOwes look p o kept rs =
+    cond (o .every)
+    (ruleByRule look p (headingBy (o .set)) (layoutsIn o) rs)
+    (concatMap (owedAt look p (headingBy (o .set)) (o .wanted) kept rs) (layoutsIn o))
+
+-- what is still to fire from a line on
+unfoldable pub owed : Groups → Profile → OpenSet → Kept → List Line → List Firing
+owed gs p o kept ls = setOwes (members gs) p o kept (rulesFrom ls) ++ firingsFrom gs p ls
+
+-- the kept rules, layout by layout
+unfoldable pub keptFires : Profile → OpenSet → Kept → List Firing
+keptFires p o kept = concatMap (λ k. cond (isIn k (o .wanted)) [] (firesAt p (headingBy (o .set)) (kept k) k)) (layoutsIn o)
