@@ -1,2 +1,3 @@
 pub mod LineFires
 pub mod Owing
+pub mod LeftHolds

@@ -13,3 +13,12 @@ pub struct OpenSet {
     pub every: bool,
     pub wanted: u64,
 }
+
+// The layouts at which the left words so far match, where the last of them ends, and the physical line there.
+pub struct LeftWords {
+    pub layouts: u64,
+    pub at: usize,
+    pub line: usize,
+}
+
+pub mod left;
