@@ -1,3 +1,4 @@
 pub mod LineFires
 pub mod Owing
 pub mod LeftHolds
+pub mod RuleLines
