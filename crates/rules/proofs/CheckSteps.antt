@@ -78,7 +78,7 @@ module _ (s t : Text) (at n : ℕ) (h : Bool) (from m : ℕ) (r : Split) (lt : a
   line-few = omega (arith, o .few, v .few)
 
 -- a refusal before others, and none
-refused-first : (f n : ℕ) (rs : List Refusal) → (f ≡ 0 → ⊥) → firstRefusal (refusedAs f n ++ rs) ≡ record { number = f; place = n }
+pub refused-first : (f n : ℕ) (rs : List Refusal) → (f ≡ 0 → ⊥) → firstRefusal (refusedAs f n ++ rs) ≡ record { number = f; place = n }
 unfolding refusedAs refusedIf firstRefusal
 refused-first f n rs h = rw (ne-eqb f 0 h)
 

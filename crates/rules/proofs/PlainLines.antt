@@ -219,7 +219,7 @@ passes-rule p ws n z h =
     rw (rule-entry n (eqb (p .form) 2) (p .right) (p .left) ws (left-good (eqb (p .form) 2) (p .right) (p .left) ws h))
     (record { fault = λ ns. present-good p ws z h; names = λ ns. refl; present = refl })
 
-passes-none : (p : Present) (n : ℕ) → Passes p (entryOf (lineOf n false []))
+pub passes-none : (p : Present) (n : ℕ) → Passes p (entryOf (lineOf n false []))
 unfolding lineFault namesAfter presentAfter
 passes-none p n = rw (no-entry n) (record { fault = λ ns. refl; names = λ ns. refl; present = refl })
 

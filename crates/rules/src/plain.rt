@@ -93,7 +93,7 @@ fn right_end(s: &[u8], t: &[u8; 512], fence: usize, from: usize, n: usize, index
 }
 
 // A rule under the heading p, from its first word on.
-fn rule_end(s: &[u8], t: &[u8; 512], fence: usize, from: usize, p: Present) -> usize
+pub fn rule_end(s: &[u8], t: &[u8; 512], fence: usize, from: usize, p: Present) -> usize
     requires { ⌜ (from < fence) × (Table (now t) × Fenced (now s) fence) ⌝ }
     ensures { λ r. ⌜ ((r ≡ 0 → ⊥) → RuleRead (now (s .entry)) from p r) ⌝ }
 {
