@@ -52,6 +52,7 @@ module _ (d : Text) (t rows : List ℕ) (flags : List Bool) (count : ℕ) (c : C
             let y : says row k c ≡ q k c (part s a e) = told-at q n (part s a e) row (h .level) (h .some) (v .means q n (h .held) some) k c g in
             rw (w .text, asked-cons q k c cs (part s a e) (left s e), u k, y) (sym (and-assoc (isIn k (x .layouts)) (q k c (part s a e)) (asked q k cs (left s e))));
         rest = λ z. sym (ap (drop 1) (w .text));
+        some = λ z. rw (w .text) (omega arith);
         low = omega (arith, w .low, w .some);
         high = w .high;
         few = w .few;
@@ -64,6 +65,7 @@ module _ (d : Text) (t rows : List ℕ) (flags : List Bool) (count : ℕ) (c : C
       record {
         tells = λ q n v k g cs. rw (w .none, asked-lacking q k c cs, in-none k) (and-false (isIn k (x .layouts)));
         rest = λ z. absurd (z refl);
+        some = λ z. absurd (z refl);
         low = omega arith;
         high = h;
         few = few;

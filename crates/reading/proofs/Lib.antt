@@ -2,3 +2,4 @@ pub mod LineFires
 pub mod Owing
 pub mod LeftHolds
 pub mod RuleLines
+pub mod Seeks

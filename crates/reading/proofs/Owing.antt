@@ -19,7 +19,7 @@ use Rattle.bitsets.specs.Sets.{isIn}
 use Rattle.matching.specs.Held.{headingBy}
 use Rattle.reading.specs.declared.OpenSet.{OpenSet}
 use Rattle.reading.specs.Order.{headFires, rulesFrom, firingsFrom}
-use Rattle.reading.specs.Owed.{Kept, layoutsIn, firesAt, owedAt, setOwes, owed, keptFires}
+use Rattle.reading.specs.Owed.{Kept, AllWanted, wanting, keeping, layoutsIn, firesAt, owedAt, setOwes, owed, keptFires}
 use Rattle.reading.proofs.LineFires.{nextRules, rules-line, rules-none, nextFirings, firings-line}
 
 -- two functions that are equal at each number of a range
@@ -33,22 +33,6 @@ pub each-none : (f : ℕ → List Firing) (n k : ℕ) → ((j : ℕ) → k ≤ j
 unfolding concatMap upFrom
 each-none f zero k h = refl
 each-none f (suc n) k h = rw (h k (omega arith) (omega arith), each-none f n (k + 1) (λ j a b. h j (omega arith) (omega arith))) refl
-
--- the layouts of a set
-abbrev pub InSet : OpenSet → ℕ → Type 0
-InSet o k = (o .first ≤ k) × (k < o .first + o .count)
-
--- the layouts that want a rule of a set of which each matching rule fires are all of them
-pub record AllWanted (o : OpenSet) : Type 0 where
-  pub all : o .every ≡ true → (k : ℕ) → o .first ≤ k → k < o .first + o .count → isIn k (o .wanted) ≡ true
-
--- the set with other layouts that want a rule
-abbrev pub wanting : OpenSet → ℕ → OpenSet
-wanting o w = record { present = o .present; set = o .set; first = o .first; count = o .count; every = o .every; wanted = w }
-
--- a rule kept at the layouts of m
-unfoldable pub keeping : ℕ → Rule → Kept → Kept
-keeping m r kept k = cond (isIn k m) r (kept k)
 
 fires-none : (look : Text → Words) (p : Profile) (h : Heading) (k : ℕ) → setFires false look p h k [] ≡ []
 unfolding setFires

@@ -28,9 +28,9 @@ use Rattle.bitsets.specs.Sets.{isIn}
 use Rattle.matching.specs.Held.{headingBy}
 use Rattle.reading.specs.declared.OpenSet.{OpenSet}
 use Rattle.reading.specs.Order.{rulesFrom, firingsFrom}
-use Rattle.reading.specs.Owed.{Kept, setOwes, owed, keptFires}
+use Rattle.reading.specs.Owed.{Kept, AllWanted, wanting, keeping, setOwes, owed, keptFires}
 use Rattle.reading.proofs.LineFires.{nextRules, rules-line, nextFirings, firings-line}
-use Rattle.reading.proofs.Owing.{AllWanted, wanting, keeping, owes-miss, owes-keep, owes-fire}
+use Rattle.reading.proofs.Owing.{owes-miss, owes-keep, owes-fire}
 
 -- what is refused of the line
 

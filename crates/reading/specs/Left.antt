@@ -1,5 +1,5 @@
 -- A rule's left words, each held against its column, at all layouts at once.
-use Prim.Native.Nat.{ℕ, _+_, _≤_}
+use Prim.Native.Nat.{ℕ, _+_, _≤_, _<_}
 use mathlib.Core.Path.{_≡_}
 use mathlib.Core.List.{List, [], _∷_}
 use mathlib.Core.Bool.{Bool, true, false, _&&_}
@@ -34,6 +34,7 @@ pub record LeftHeld (d : Text) (t rows : List ℕ) (flags : List Bool) (count : 
   pub tells : (q : Question) (n : ℕ) → Answers q n d t rows flags count → (k : ℕ) → AskedAt n k c → (cs : List Column) →
       (isIn k (x .layouts) && asked q k (c ∷ cs) (left s (x .at))) ≡ (isIn k (r .layouts) && asked q k cs (left s (r .at)))
   pub rest : (r .layouts ≡ 0 → ⊥) → left s (r .at) ≡ drop 1 (left s (x .at))
+  pub some : (r .layouts ≡ 0 → ⊥) → 0 < length (left s (x .at))
   pub low : x .at ≤ r .at
   pub high : r .at ≤ length s
   pub few : r .line ≤ r .at + 1

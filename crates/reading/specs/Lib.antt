@@ -1,3 +1,4 @@
 pub mod Order
 pub mod Owed
 pub mod Left
+pub mod Seeking

@@ -1,7 +1,8 @@
 -- What is still to fire at a line: of the set that is being read, and of all that follows.
-use Prim.Native.Nat.{ℕ}
+use Prim.Native.Nat.{ℕ, _+_, _≤_, _<_}
+use mathlib.Core.Path.{_≡_}
 use mathlib.Core.List.{List, [], _∷_, _++_}
-use mathlib.Core.Bool.{Bool, false, cond}
+use mathlib.Core.Bool.{Bool, true, false, cond}
 use Rattle.text.specs.Bytes.{Text, Words, concatMap}
 use Rattle.text.specs.Lines.{Line}
 use Rattle.profile.specs.Profile.{Profile}
@@ -44,3 +45,15 @@ owed gs p o kept ls = setOwes (members gs) p o kept (rulesFrom ls) ++ firingsFro
 -- the kept rules, layout by layout
 unfoldable pub keptFires : Profile → OpenSet → Kept → List Firing
 keptFires p o kept = concatMap (λ k. cond (isIn k (o .wanted)) [] (firesAt p (headingBy (o .set)) (kept k) k)) (layoutsIn o)
+
+-- the layouts that want a rule of a set of which each matching rule fires are all of them
+pub record AllWanted (o : OpenSet) : Type 0 where
+  pub all : o .every ≡ true → (k : ℕ) → o .first ≤ k → k < o .first + o .count → isIn k (o .wanted) ≡ true
+
+-- the set with other layouts that want a rule
+abbrev pub wanting : OpenSet → ℕ → OpenSet
+wanting o w = record { present = o .present; set = o .set; first = o .first; count = o .count; every = o .every; wanted = w }
+
+-- a rule kept at the layouts of m
+unfoldable pub keeping : ℕ → Rule → Kept → Kept
+keeping m r kept k = cond (isIn k m) r (kept k)

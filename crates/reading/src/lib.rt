@@ -1,5 +1,8 @@
 // One reading of a file: each line is judged, and where its set still wants a layout, matched and fired.
 
+pub mod left;
+pub mod seek;
+
 use rules::Present;
 use rules::SetHeading;
 
@@ -21,4 +24,24 @@ pub struct LeftWords {
     pub line: usize,
 }
 
-pub mod left;
+// How far a walk over the rules of a set has come: to a rule that matches, at which layouts, where its line goes on behind its left words, and where the next line
+// starts; to a heading, where its line starts and its words begin; to a line that is refused; or to the end of the file.
+pub enum Sought {
+    Rule {
+        place: usize,
+        layouts: u64,
+        next: usize,
+        after: usize,
+    },
+    Heading {
+        at: usize,
+        line: usize,
+        from: usize,
+        number: usize,
+    },
+    Refused {
+        number: usize,
+        line: usize,
+    },
+    End,
+}
