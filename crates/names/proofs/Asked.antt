@@ -7,8 +7,7 @@ use mathlib.Core.List.{List, [], _∷_, _++_}
 use mathlib.Core.Bool.{Bool, true, false, not, _||_, _&&_, cond}
 use lib.Dec.{eqb, ltb}
 use lib.ListN.{length, getD, take, drop, drop-of-length-le}
-use borrow.Author.Tests.{eqb-true, eqb-false, eq-eqb, ltb-true, ltb-false, lt-ltb, le-ltb}
-use Rattle.text.specs.Limits.{mostLayouts, mostOptions}
+use borrow.Author.Tests.{ne-eqb, eqb-true, eqb-false, eq-eqb, ltb-true, ltb-false, le-ltb}
 use Rattle.text.specs.Bytes.{Text, same, empty, first, part, anyOf}
 use Rattle.text.proofs.Lists.{no, same-eq, same-self, empty-some, any-nil, any-cons}
 use Rattle.text.proofs.Positions.{part-empty, length-part}
@@ -16,7 +15,7 @@ use Rattle.profile.specs.Profile.{Texts, profileOf, layoutCount, fields, dropEm
 use Rattle.profile.specs.Splitting.{FieldEnd}
 use Rattle.profile.specs.Refusals.{profileRefusals}
 use Rattle.profile.specs.Places.{mostValues, valueAt, Placed, ValuesOf}
-use Rattle.profile.proofs.Counts.{few-layouts, few-options}
+use Rattle.profile.proofs.Counts.{few-layouts}
 use Rattle.profile.proofs.Listing.{options-field, options-none}
 use Rattle.rules.specs.declared.Column.{Column}
 use Rattle.rules.specs.declared.Column.the-variants as column
@@ -25,13 +24,12 @@ use Rattle.rules.specs.Faults.{defined}
 use Rattle.answers.specs.Matching.{members, wordMatches, valueMatches, columnMatches, isOptions}
 use Rattle.bitsets.specs.Sets.{isIn}
 use Rattle.bitsets.proofs.Bits.{in-none, in-half}
-use Rattle.listing.specs.Names.{Named, nameAt, namesAt, numberOf, mostNames}
+use Rattle.listing.specs.Names.{namesAt, numberOf, mostNames}
 use Rattle.listing.proofs.Ranking.{number-named}
 use Rattle.listing.proofs.Adding.{named-none}
 use Rattle.names.specs.declared.Row.{Row}
-use Rattle.names.specs.declared.Held.{Held}
-use Rattle.names.specs.Rows.{Question, asks, says, Tells}
-use Rattle.names.specs.Compiled.{sieveOf, noRow, numbered, Tables, Filled, Compiled, Renewed, NewRow}
+use Rattle.names.specs.Rows.{Question, asks, says}
+use Rattle.names.specs.Compiled.{noRow, numbered, Tables, Filled, Renewed, NewRow}
 use Rattle.names.specs.Marked.{orAlso, listable, valueAsks, nameCount, Marked}
 use Rattle.names.specs.Placing.{textSize, fourTexts, TextsCopied, Lies, ValuesPlaced, SomeSet}
 use Rattle.names.specs.Asked.{valueNumber, ValueRow, valuesAsk, optionsAsk, starAt, profileAsks, Begun, CompiledProfile}
@@ -39,31 +37,10 @@ use Rattle.names.specs.Ready.{Ready}
 use Rattle.names.proofs.Searching.{numbered-none}
 use Rattle.names.proofs.Joining.{says-none}
 use Rattle.names.proofs.Renewing.{filled-new, with-star}
+use Rattle.names.proofs.GroupLines.{whole}
 use Rattle.names.proofs.Marking.{filled-same, marked-nothing, marked-same, marked-then}
 use Rattle.names.proofs.Placing.{lies-part, lies-options, lies-star, length-four, short-texts, values-of}
-
-or-none : (a : Bool) → a || false ≡ a
-or-none true = refl
-or-none false = refl
-
-and-none : (a : Bool) → a && false ≡ false
-and-none true = refl
-and-none false = refl
-
-and-all : (a : Bool) → a && true ≡ a
-and-all true = refl
-and-all false = refl
-
-or-assoc : (a b c : Bool) → (a || b) || c ≡ a || (b || c)
-or-assoc true b c = refl
-or-assoc false b c = refl
-
-differ : (i j : ℕ) → (i ≡ j → ⊥) → eqb i j ≡ false
-differ i j d = go (eqb i j) refl
-  where
-    go : (b : Bool) → eqb i j ≡ b → b ≡ false
-    go true e = absurd (d (eqb-true i j e))
-    go false e = refl
+use Rattle.names.proofs.Tests.{or-none, or-assoc, and-none, and-all}
 
 any-same : (f g : Text → Bool) → ((x : Text) → f x ≡ g x) → (l : List Text) → anyOf f l ≡ anyOf g l
 unfolding anyOf
@@ -87,8 +64,8 @@ layouts-row j r l e = record { at = by }
     by : (k : ℕ) (c : Column) → 1 ≤ k → k ≤ 32 → says (record { layouts = r; variants = 0 }) k c ≡ eqb j (valueNumber k c)
     by k column.Model a b = set 0
     by k column.Layout a b = set k ∙ (let z : k ≡ 0 + k = omega arith in ap (eqb j) z)
-    by k column.Variant a b = in-none k ∙ sym (differ j (32 + k) (λ (z : j ≡ 32 + k). omega arith))
-    by k column.Options a b = in-none 0 ∙ sym (differ j 65 (λ (z : j ≡ 65). omega arith))
+    by k column.Variant a b = in-none k ∙ sym (ne-eqb j (32 + k) (λ (z : j ≡ 32 + k). omega arith))
+    by k column.Options a b = in-none 0 ∙ sym (ne-eqb j 65 (λ (z : j ≡ 65). omega arith))
 
 pub variants-row : (j r : ℕ) → 33 ≤ j → j < 65 → ((i : ℕ) → isIn i r ≡ (isIn i 0 || eqb (j - 32) i)) → ValueRow j (record { layouts = 0; variants = r })
 unfolding says valueNumber
@@ -99,13 +76,13 @@ variants-row j r l m e = record { at = by }
 
     moved : (k : ℕ) (c : Bool) → eqb (j - 32) k ≡ c → c ≡ eqb j (32 + k)
     moved k true z = let y : j - 32 ≡ k = eqb-true (j - 32) k z in sym (eq-eqb j (32 + k) (omega arith))
-    moved k false z = let y = eqb-false (j - 32) k z in sym (differ j (32 + k) (λ (w : j ≡ 32 + k). y (omega arith)))
+    moved k false z = let y = eqb-false (j - 32) k z in sym (ne-eqb j (32 + k) (λ (w : j ≡ 32 + k). y (omega arith)))
 
     by : (k : ℕ) (c : Column) → 1 ≤ k → k ≤ 32 → says (record { layouts = 0; variants = r }) k c ≡ eqb j (valueNumber k c)
-    by k column.Model a b = in-none 0 ∙ sym (differ j 0 (λ (z : j ≡ 0). omega arith))
-    by k column.Layout a b = in-none k ∙ sym (differ j (0 + k) (λ (z : j ≡ 0 + k). omega arith))
+    by k column.Model a b = in-none 0 ∙ sym (ne-eqb j 0 (λ (z : j ≡ 0). omega arith))
+    by k column.Layout a b = in-none k ∙ sym (ne-eqb j (0 + k) (λ (z : j ≡ 0 + k). omega arith))
     by k column.Variant a b = set k ∙ moved k (eqb (j - 32) k) refl
-    by k column.Options a b = set 0 ∙ (differ (j - 32) 0 (λ (z : j - 32 ≡ 0). omega arith) ∙ sym (differ j 65 (λ (z : j ≡ 65). omega arith)))
+    by k column.Options a b = set 0 ∙ (ne-eqb (j - 32) 0 (λ (z : j - 32 ≡ 0). omega arith) ∙ sym (ne-eqb j 65 (λ (z : j ≡ 65). omega arith)))
 
 in-one : (k : ℕ) → 1 ≤ k → isIn k 1 ≡ false
 in-one zero h = absurd (omega arith)
@@ -446,7 +423,7 @@ module _ (s : Text) (b : List ℕ) (k : ℕ) (c : Column) (w : Text) where
   unfolding valuesAsk
   values-none zero l = refl
   values-none (suc n) l =
-      rw (values-none n (omega arith)) (asks-no (valueAt s b n) w (λ i d. eqb n (valueNumber i d)) k c (differ n (valueNumber k c) (λ (z : n ≡ valueNumber k c). omega arith)))
+      rw (values-none n (omega arith)) (asks-no (valueAt s b n) w (λ i d. eqb n (valueNumber i d)) k c (ne-eqb n (valueNumber k c) (λ (z : n ≡ valueNumber k c). omega arith)))
 
   values-at : (n : ℕ) → valueNumber k c < n → valuesAsk s b n k c w ≡ listable (valueAt s b (valueNumber k c)) && same w (valueAt s b (valueNumber k c))
   unfolding valuesAsk
@@ -533,12 +510,9 @@ ready-profile x s b t rows flags count h v u l =
 
 -- the texts copied, the places, and the names
 
-whole-used : (used : ℕ) (d : Text) → take (used - 0) d ≡ take used d
-whole-used used d = let e : used - 0 ≡ used = omega arith in ap (λ (i : ℕ). take i d) e
-
 module _ (x : Texts) (h : profileRefusals x ≡ []) (d d′ : Text) (used : ℕ) (v : TextsCopied x d d′ used) where
   copied : take (used - 0) d′ ≡ fourTexts x ++ (42 ∷ [])
-  copied = whole-used used d′ ∙ v .text
+  copied = whole used d′ ∙ v .text
 
   pub room-left : used + 16384 ≤ textSize
   room-left =
@@ -563,7 +537,7 @@ module _ (x : Texts) (h : profileRefusals x ≡ []) (d d′ : Text) (used : ℕ)
         CompiledProfile x d′ t rows flags b (record { used = used; count = count })
     compiled-profile z t rows flags count u l =
         record {
-          ready = ready-profile x (take used d′) b t rows flags count h placed-values (rw (whole-used used d′) at u) l;
+          ready = ready-profile x (take used d′) b t rows flags count h placed-values (rw (whole used d′) at u) l;
           values = placed-values;
           room = room-left;
           size = v .size ∙ z;

@@ -7,7 +7,7 @@ use mathlib.Core.Bool.{Bool, true, false, _||_, _&&_}
 use lib.Dec.{eqb, ltb}
 use lib.ListN.{length, take, drop, getD, set, length-set, length-append, drop-of-length-le}
 use lib.Seq.{getD-set-same, getD-set-other, drop-append-le, drop-append-seam}
-use borrow.Author.Tests.{eqb-true, eq-eqb, ltb-true, ltb-false}
+use borrow.Author.Tests.{ne-eqb, eq-eqb, ltb-true, ltb-false}
 use Rattle.text.specs.Limits.{longestText, longestField}
 use Rattle.text.specs.Bytes.{Text, part, anyOf}
 use Rattle.text.specs.Refusals.{refusedIf}
@@ -19,12 +19,13 @@ use Rattle.output.proofs.Stores.{take-stored, length-stored}
 use Rattle.profile.specs.Profile.{Texts, fields}
 use Rattle.profile.specs.Splitting.{behind, FieldEnd}
 use Rattle.profile.specs.Refusals.{outside, longField, badText, textRefusals, countRefusals, profileRefusals}
-use Rattle.profile.specs.Places.{mostValues, valueAt, InText, Placed, ValuesOf}
+use Rattle.profile.specs.Places.{mostValues, valueAt, InText, ValuesOf}
 use Rattle.profile.proofs.Splitting.{fields-nil, behind-nil, behind-cons, getD-nil}
 use Rattle.bitsets.specs.Sets.{isIn}
 use Rattle.bitsets.proofs.Bits.{in-none}
 use Rattle.names.specs.Placing.{fourTexts, ShortTexts, TextsCopied, Lies, FieldPlace, FieldsPlaced, ValuesPlaced, SomeSet}
 use Rattle.names.proofs.Renewing.{part-longer, whole-part}
+use Rattle.names.proofs.Tests.{or-none, and-none, and-all}
 
 -- texts copied one after the other
 
@@ -379,25 +380,6 @@ pub record SomeSo (b : List ℕ) (before k s : ℕ) : Type 0 where
   pub done : (i : ℕ) → 1 ≤ i → i < k → isIn i s ≡ ltb (getD b (2 * (before + i)) 0) (getD b (2 * (before + i) + 1) 0)
   pub left : (i : ℕ) → k ≤ i → isIn i s ≡ false
 
-or-none : (a : Bool) → a || false ≡ a
-or-none true = refl
-or-none false = refl
-
-differ : (i j : ℕ) → (i ≡ j → ⊥) → eqb i j ≡ false
-differ i j d = go (eqb i j) refl
-  where
-    go : (b : Bool) → eqb i j ≡ b → b ≡ false
-    go true e = absurd (d (eqb-true i j e))
-    go false e = refl
-
-and-none : (a : Bool) → a && false ≡ false
-and-none true = refl
-and-none false = refl
-
-and-all : (a : Bool) → a && true ≡ a
-and-all true = refl
-and-all false = refl
-
 same-number : (i : ℕ) → eqb i i ≡ true
 same-number i = eq-eqb i i refl
 
@@ -409,7 +391,7 @@ module _ (b : List ℕ) (before : ℕ) where
         few = omega arith;
         first = e 0 ∙ rw (in-none 0) refl;
         done = λ i a l. absurd (omega arith);
-        left = λ i l. e i ∙ rw (in-none i) (differ 0 i (λ (z : 0 ≡ i). omega arith));
+        left = λ i l. e i ∙ rw (in-none i) (ne-eqb 0 i (λ (z : 0 ≡ i). omega arith));
       }
 
   module _ (k s : ℕ) (v : SomeSo b before k s) where
@@ -425,7 +407,7 @@ module _ (b : List ℕ) (before : ℕ) where
         }
       where
         other : (j : ℕ) → (k ≡ j → ⊥) → isIn j s′ ≡ isIn j s
-        other j d = e j ∙ rw (differ k j d, and-none wanted) (or-none (isIn j s))
+        other j d = e j ∙ rw (ne-eqb k j d, and-none wanted) (or-none (isIn j s))
 
         go : (i : ℕ) → 1 ≤ i → i < k + 1 → (c : Bool) → ltb i k ≡ c → isIn i s′ ≡ ltb (getD b (2 * (before + i)) 0) (getD b (2 * (before + i) + 1) 0)
         go i a m true z = let h = ltb-true i k z in other i (λ (q : k ≡ i). omega arith) ∙ v .done i a h

@@ -7,7 +7,7 @@ use lib.Dec.{eqb}
 use lib.ListN.{length, take}
 use Rattle.text.specs.Limits.{longestWord, mostGroups}
 use Rattle.text.specs.Bytes.{Text, empty, anyOf}
-use Rattle.profile.specs.Profile.{Texts, optionsOf}
+use Rattle.profile.specs.Profile.{Texts}
 use Rattle.profile.specs.Places.{mostValues, beforeLayouts, beforeVariants, valueAt, ValuesOf}
 use Rattle.rules.specs.declared.Column.{Column}
 use Rattle.rules.specs.declared.Column.the-variants as column

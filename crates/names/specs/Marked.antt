@@ -1,7 +1,7 @@
 -- A profile's values, put into the table one by one.
-use Prim.Native.Nat.{ℕ, zero, suc, _+_, _≤_, _<_}
+use Prim.Native.Nat.{ℕ, _+_, _≤_, _<_}
 use mathlib.Core.Path.{_≡_}
-use mathlib.Core.List.{List, [], _∷_}
+use mathlib.Core.List.{List, _∷_}
 use mathlib.Core.Bool.{Bool, not, _||_, _&&_, cond}
 use Rattle.text.specs.Bytes.{Text, same, empty}
 use Rattle.rules.specs.declared.Column.{Column}

@@ -1,7 +1,6 @@
 use native.Mathlib.Omega.{arith}
 use Rattle.names.proofs.Placing.{lies-one}
 use Rattle.names.proofs.Asked.{begun-tables, begun-profile}
-use borrow.Author.Needs.{needs}
 use Rattle.names.proofs.compile.mark_profile.Statement.{statement}
 use Rattle.names.proofs.compile.mark_profile.Tie as tie
 

@@ -3,7 +3,6 @@ use Prim.Native.Nat.{_-_, _≤_}
 use Rattle.profile.specs.Places.{valueAt}
 use Rattle.names.specs.Marked.{Marked}
 use Rattle.names.specs.Asked.{valuesAsk}
-use Rattle.text.specs.Bytes.{part}
 use Rattle.names.proofs.Asked.{values-start, values-more, values-end}
 use borrow.Author.Needs.{needs}
 use Rattle.names.proofs.compile.mark_values.Statement.{statement}
