@@ -14,7 +14,7 @@ use Rattle.text.specs.Words.{tooLong}
 use Rattle.text.specs.Reading.{left, FoundWord, NoWord, Passed}
 use Rattle.text.proofs.Lists.{neither, any-drop}
 use Rattle.text.proofs.Passing.{Passing, passing-start, passing-word, passing-stop, passing-then}
-use Rattle.profile.specs.Profile.{Profile, fields, textsOf, profileOf}
+use Rattle.profile.specs.Profile.{Profile, layoutCount}
 use Rattle.values.specs.Values.{filled}
 use Rattle.values.specs.Filling.{Filled, isPercent}
 use Rattle.values.specs.Spread.{cuts, spread, expanded}
@@ -26,12 +26,11 @@ use Rattle.answers.specs.Firings.{fired, ruleFires}
 use Rattle.firing.specs.Writing.{FiredOne, Low, runBuf, runCur, ShortWords, FiredLine, BehindFirst}
 use Rattle.firing.proofs.Going.{Going, going-start, going-more, going-end}
 
-pub value-fired : (m l v : Text) (n k : ℕ) (x a b : Text) (r : ℕ) (d d′ : Text) (q q′ : Cursors) (c : ℕ) → n ≡ length (fields l) →
-    Filled a b (filled (profileOf (textsOf m l v [])) k x) r → FiredOne d d′ q q′ c (concatMap (spread n) (cuts (take (r - 0) b))) →
-    FiredOne d d′ q q′ c (expanded (profileOf (textsOf m l v [])) k x)
-value-fired m l v n k x a b r d d′ q q′ c e h f =
+pub value-fired : (p : Profile) (n k : ℕ) (x a b : Text) (r : ℕ) (d d′ : Text) (q q′ : Cursors) (c : ℕ) → n ≡ layoutCount p →
+    Filled a b (filled p k x) r → FiredOne d d′ q q′ c (concatMap (spread n) (cuts (take (r - 0) b))) → FiredOne d d′ q q′ c (expanded p k x)
+value-fired p n k x a b r d d′ q q′ c e h f =
     let z : r - 0 ≡ r = omega arith in
-    rw (expanded-by m l v [] k n x (take (r - 0) b) e (rw z (h .text))) at f
+    rw (expanded-by p k n x (take (r - 0) b) e (rw z (h .text))) at f
 
 fires-cons : (p : Profile) (l k c : ℕ) (cs : List ℕ) (w : Text) (ws : Words) →
     ruleFires p l k (c ∷ cs) (w ∷ ws) ≡ fired l k c (expanded p k w) ++ ruleFires p l k cs ws
@@ -58,10 +57,9 @@ unfolding anyOf
 short-rest w ws h = neither (tooLong w) (anyOf tooLong ws) h .1
 
 -- a word without percent signs
-pub plain-fired : (m l v : Text) (n k : ℕ) (x : Text) (d d′ : Text) (q q′ : Cursors) (c : ℕ) (b : Bool) → n ≡ length (fields l) → b ≡ anyOf isPercent x → b ≡ false →
-    FiredOne d d′ q q′ c (concatMap (spread n) (cuts x)) → FiredOne d d′ q q′ c (expanded (profileOf (textsOf m l v [])) k x)
-plain-fired m l v n k x d d′ q q′ c b e h z f =
-    rw (expanded-by m l v [] k n x x e (sym (filled-plain (profileOf (textsOf m l v [])) k x (sym h ∙ z)))) at f
+pub plain-fired : (p : Profile) (n k : ℕ) (x : Text) (d d′ : Text) (q q′ : Cursors) (c : ℕ) (b : Bool) → n ≡ layoutCount p → b ≡ anyOf isPercent x → b ≡ false →
+    FiredOne d d′ q q′ c (concatMap (spread n) (cuts x)) → FiredOne d d′ q q′ c (expanded p k x)
+plain-fired p n k x d d′ q q′ c b e h z f = rw (expanded-by p k n x x e (sym (filled-plain p k x (sym h ∙ z)))) at f
 
 -- the loop over a line's words, of which j have fired
 
