@@ -14,7 +14,7 @@ use Rattle.text.specs.Words.{tooLong}
 use Rattle.text.specs.Reading.{left, FoundWord, NoWord, Passed}
 use Rattle.text.proofs.Lists.{neither, any-drop}
 use Rattle.text.proofs.Passing.{Passing, passing-start, passing-word, passing-stop, passing-then}
-use Rattle.profile.specs.Profile.{Profile, fields, textsOf, profileOf}
+use Rattle.profile.specs.Profile.{Profile, layoutCount}
 use Rattle.values.specs.Values.{filled}
 use Rattle.values.specs.Filling.{Filled, isPercent}
 use Rattle.values.specs.Spread.{cuts, spread, expanded}
@@ -23,15 +23,15 @@ use Rattle.values.proofs.Profiles.{expanded-by}
 use Rattle.firing.specs.declared.Cursors.{Cursors}
 use Rattle.firing.specs.declared.RuleRun.{RuleRun}
 use Rattle.answers.specs.Firings.{fired, ruleFires}
-use Rattle.firing.specs.Writing.{FiredOne, Low, runBuf, runCur, ShortWords, FiredLine, BehindFirst}
+use Rattle.firing.specs.Writing.{FiredOne, Low, runBuf, runCur, ShortWords, FiredRule, FiredLine, BehindFirst}
+use Rattle.firing.specs.Line.{Fires, RightWords}
 use Rattle.firing.proofs.Going.{Going, going-start, going-more, going-end}
 
-pub value-fired : (m l v : Text) (n k : ℕ) (x a b : Text) (r : ℕ) (d d′ : Text) (q q′ : Cursors) (c : ℕ) → n ≡ length (fields l) →
-    Filled a b (filled (profileOf (textsOf m l v [])) k x) r → FiredOne d d′ q q′ c (concatMap (spread n) (cuts (take (r - 0) b))) →
-    FiredOne d d′ q q′ c (expanded (profileOf (textsOf m l v [])) k x)
-value-fired m l v n k x a b r d d′ q q′ c e h f =
+pub value-fired : (p : Profile) (n k : ℕ) (x a b : Text) (r : ℕ) (d d′ : Text) (q q′ : Cursors) (c : ℕ) → n ≡ layoutCount p →
+    Filled a b (filled p k x) r → FiredOne d d′ q q′ c (concatMap (spread n) (cuts (take (r - 0) b))) → FiredOne d d′ q q′ c (expanded p k x)
+value-fired p n k x a b r d d′ q q′ c e h f =
     let z : r - 0 ≡ r = omega arith in
-    rw (expanded-by m l v [] k n x (take (r - 0) b) e (rw z (h .text))) at f
+    rw (expanded-by p k n x (take (r - 0) b) e (rw z (h .text))) at f
 
 fires-cons : (p : Profile) (l k c : ℕ) (cs : List ℕ) (w : Text) (ws : Words) →
     ruleFires p l k (c ∷ cs) (w ∷ ws) ≡ fired l k c (expanded p k w) ++ ruleFires p l k cs ws
@@ -58,10 +58,9 @@ unfolding anyOf
 short-rest w ws h = neither (tooLong w) (anyOf tooLong ws) h .1
 
 -- a word without percent signs
-pub plain-fired : (m l v : Text) (n k : ℕ) (x : Text) (d d′ : Text) (q q′ : Cursors) (c : ℕ) (b : Bool) → n ≡ length (fields l) → b ≡ anyOf isPercent x → b ≡ false →
-    FiredOne d d′ q q′ c (concatMap (spread n) (cuts x)) → FiredOne d d′ q q′ c (expanded (profileOf (textsOf m l v [])) k x)
-plain-fired m l v n k x d d′ q q′ c b e h z f =
-    rw (expanded-by m l v [] k n x x e (sym (filled-plain (profileOf (textsOf m l v [])) k x (sym h ∙ z)))) at f
+pub plain-fired : (p : Profile) (n k : ℕ) (x : Text) (d d′ : Text) (q q′ : Cursors) (c : ℕ) (b : Bool) → n ≡ layoutCount p → b ≡ anyOf isPercent x → b ≡ false →
+    FiredOne d d′ q q′ c (concatMap (spread n) (cuts x)) → FiredOne d d′ q q′ c (expanded p k x)
+plain-fired p n k x d d′ q q′ c b e h z f = rw (expanded-by p k n x x e (sym (filled-plain p k x (sym h ∙ z)))) at f
 
 -- the loop over a line's words, of which j have fired
 
@@ -100,21 +99,25 @@ module _ (p : Profile) (s : Text) (from n : ℕ) (d₀ : Text) (q₀ : Cursors) 
                 going-more d₀ q₀ _ d q _ _ d′ q′ (rw y at (v .going x)) (g .bytes x k) (g .places x k);
           }
 
-    -- all words have fired, and the rest of the line is passed over
-    pub words-passed : length (left s from) ≤ j → (r l : ℕ) → Passed s i m r l → FiredLine p cs (left s from) s from n d₀ d q₀ k (record { fired = true; at = r; line = l; cursors = q })
-    words-passed h r l w = record { told = refl; fires = record { bytes = λ x. over x .0; places = λ x. over x .1 }; passed = passing-then s from n i m (v .passing) r l w }
+    fired-all : left s i ≡ [] → FiredRule p d₀ d q₀ q k cs (left s from)
+    fired-all none = record { bytes = λ x. over x .0; places = λ x. over x .1 }
       where
-        none : left s i ≡ []
-        none = let z : length (left s i) ≤ 0 = omega (arith, v .count) in drop-of-length-le (left s i) z
-
         over : (x : ℕ) → (d ≡ runBuf d₀ q₀ (ruleFires p x k cs (left s from))) × (q ≡ runCur q₀ (ruleFires p x k cs (left s from)))
         over x = going-end d₀ q₀ _ d q (rw (none, fires-none p x k (drop j cs)) at (v .going x))
 
+    -- all words have fired
+    pub words-fired : length (left s from) ≤ j → FiredRule p d₀ d q₀ q k cs (left s from)
+    words-fired h = let z : length (left s i) ≤ 0 = omega (arith, v .count) in fired-all (drop-of-length-le (left s i) z)
+
+    pub words-none : (r l : ℕ) → NoWord s i m r l → FiredRule p d₀ d q₀ q k cs (left s from)
+    words-none r l w = fired-all (w .none)
+
+    -- and the rest of the line is passed over
+    pub words-passed : length (left s from) ≤ j → (r l : ℕ) → Passed s i m r l → FiredLine p cs (left s from) s from n d₀ d q₀ k (record { fired = true; at = r; line = l; cursors = q })
+    words-passed h r l w = record { told = refl; fires = words-fired h; passed = passing-then s from n i m (v .passing) r l w }
+
     pub words-end : (r l : ℕ) → NoWord s i m r l → FiredLine p cs (left s from) s from n d₀ d q₀ k (record { fired = true; at = r; line = l; cursors = q })
-    words-end r l w = record { told = refl; fires = record { bytes = λ x. over x .0; places = λ x. over x .1 }; passed = passing-stop s from n i m (v .passing) r l w }
-      where
-        over : (x : ℕ) → (d ≡ runBuf d₀ q₀ (ruleFires p x k cs (left s from))) × (q ≡ runCur q₀ (ruleFires p x k cs (left s from)))
-        over x = going-end d₀ q₀ _ d q (rw (w .none, fires-none p x k (drop j cs)) at (v .going x))
+    words-end r l w = record { told = refl; fires = words-none r l w; passed = passing-stop s from n i m (v .passing) r l w }
 
 -- behind the first word of a line
 
@@ -132,12 +135,37 @@ module _ (s : Text) (from n : ℕ) where
     pub behind-short : ShortWords (left s from) → ShortWords (left s i)
     behind-short h = rw (v .text) (any-drop tooLong 1 (left s from) h)
 
+    pub behind-right : (c : ℕ) → RightWords (drop 1 (left s from)) c → RightWords (left s i) c
+    behind-right c h = rw (v .text) h
+
+    pub behind-rule : (p : Profile) (cs : List ℕ) (d d′ : Text) (q q′ : Cursors) (k : ℕ) → FiredRule p d d′ q q′ k cs (left s i) →
+        FiredRule p d d′ q q′ k cs (drop 1 (left s from))
+    behind-rule p cs d d′ q q′ k f = rw (v .text) at f
+
     pub behind-fired : (p : Profile) (cs : List ℕ) (d d′ : Text) (q : Cursors) (k : ℕ) (r : RuleRun) → FiredLine p cs (left s i) s i m d d′ q k r →
         FiredLine p cs (drop 1 (left s from)) s from n d d′ q k r
     behind-fired p cs d d′ q k r f =
         record {
           told = f .told;
-          fires = rw (v .text) at (f .fires);
+          fires = behind-rule p cs d d′ q (r .cursors) k (f .fires);
           passed =
               passing-then s from n i m (record { low = v .low; high = v .high; few = v .few; onto = v .onto }) (r .at) (r .line) (f .passed);
         }
+
+-- one word after the other, and the right words of a rule
+
+pub fires-again : (s : Text) (b : List ℕ) (n k : ℕ) (x x′ d d′ : Text) (q q′ : Cursors) → Fires s b n k x d q → length x′ ≡ length x → length d′ ≡ length d →
+    Low (q′ .at) → Fires s b n k x′ d′ q′
+fires-again s b n k x x′ d d′ q q′ f e g low =
+    record {
+      expands = f .expands;
+      some = f .some;
+      digit = f .digit;
+      room = omega (arith, f .room);
+      scratch = omega (arith, f .scratch);
+      buf = omega (arith, f .buf);
+      low = low;
+    }
+
+pub right-words : (ws : Words) (c : ℕ) → length ws ≡ 1 + c → c ≤ 5 → ShortWords ws → RightWords (drop 1 ws) c
+right-words ws c e h k = record { all = length-drop 1 ws ∙ omega arith; few = h; short = any-drop tooLong 1 ws k }

@@ -1,2 +1,3 @@
 pub mod Writing
 pub mod Stage
+pub mod Line

@@ -1,5 +1,6 @@
 // The values of rules, fired into ten regions of one lent buffer.
 
+pub mod line;
 pub mod rule;
 pub mod stage;
 pub mod writing;
@@ -27,4 +28,12 @@ pub struct RuleRun {
     pub at: usize,
     pub line: usize,
     pub cursors: Cursors,
+}
+
+// The right side of a set's rules at a layout: the components, which are `count`, the layout count n and the matched layout k.
+pub struct RightSide {
+    pub count: usize,
+    pub components: [usize; 5],
+    pub n: usize,
+    pub k: usize,
 }

@@ -9,12 +9,12 @@ ghost use Rattle.profile.specs.Profile.{fields, textsOf, profileOf};
 ghost use Rattle.profile.specs.Bounds.{Bounds};
 ghost use Rattle.values.specs.Filling.{Short, mostPerByte};
 ghost use Rattle.values.specs.Spread.{expanded};
-ghost use Rattle.firing.specs.Writing.{FiredOne, Low, ShortWords, FiredLine, BehindFirst};
+ghost use Rattle.firing.specs.Writing.{FiredOne, Low, ShortWords, FiredLine};
 use super::Cursors;
 use super::LONGEST_TOTAL;
 use super::RuleRun;
+use super::line::behind_first;
 use super::writing::fire;
-use text::LineStart;
 use text::Next;
 use text::reader::pass_line;
 use text::reader::word_at;
@@ -49,22 +49,6 @@ fn fire_value(
     }
     let length = fill_value(x, model, layouts, variants, bounds, n, k, scratch);
     fire(&scratch[0..length], n, component, buf, q)
-}
-
-// Behind the first word of a line from `from` on; at `from` itself, if it has none.
-fn behind_first(s: &[u8], t: &[u8; 512], fence: usize, from: usize, line: usize) -> LineStart
-    requires { ⌜ Within (now s) (now t) fence from line ⌝ }
-    ensures { λ r. ⌜ BehindFirst (now (s .entry)) from line (r .at) (r .line) ⌝ }
-{
-    match word_at(s, t, fence, from, line) {
-        Next::Found {
-            start: _,
-            end,
-            line,
-            fault: _,
-        } => LineStart { at: end, line },
-        Next::Stop { next: _, line: _ } => LineStart { at: from, line },
-    }
 }
 
 // The words of a line from `from` on, which are `count`, fire for the components in turn, at the layout k.

@@ -8,7 +8,7 @@ use Rattle.text.specs.Bytes.{Text, empty}
 use Rattle.text.proofs.Lists.{nothing, empty-some}
 use Rattle.output.specs.Store.{farthest, Wrote}
 use Rattle.output.proofs.Stores.{wrote-none, wrote-then}
-use Rattle.profile.specs.Profile.{Profile, textsOf, fields, profileOf, layoutCount}
+use Rattle.profile.specs.Profile.{Profile, layoutCount}
 use Rattle.rules.specs.declared.Which.{Which}
 use Rattle.rules.specs.declared.Which.the-variants as which
 use Rattle.rules.specs.declared.Variable.{Variable}
@@ -52,22 +52,21 @@ module _ (n k : ℕ) (ts : List Text) (x : Which) where
 
 -- what an item stands for
 
-module _ (m l v : Text) (k : ℕ) (x : Variable) where
-  pub value-model : x ≡ variable.Model → m ≡ valueOf (profileOf (textsOf m l v [])) k x
-  unfolding valueOf profileOf
-  value-model q = sym (rw q)
+module _ (y : Profile) (k : ℕ) (x : Variable) where
+  pub value-model : x ≡ variable.Model → (r : Text) → r ≡ y .model → r ≡ valueOf y k x
+  unfolding valueOf
+  value-model q r g = g ∙ sym (rw q)
 
-  pub value-layout : (w : Which) → x ≡ variable.Layout w → (n : ℕ) → n ≡ length (fields l) → (r : Text) → r ≡ choose n k (fields l) w →
-      r ≡ valueOf (profileOf (textsOf m l v [])) k x
-  unfolding valueOf profileOf layoutCount
-  value-layout w q n e r g = g ∙ sym (rw (q, e))
+  module _ (w : Which) (n : ℕ) (e : n ≡ layoutCount y) (r : Text) where
+    pub value-layout : x ≡ variable.Layout w → r ≡ choose n k (y .layouts) w → r ≡ valueOf y k x
+    unfolding valueOf
+    value-layout q g = g ∙ sym (rw (q, e))
 
-  pub value-variant : (w : Which) → x ≡ variable.Variant w → (n : ℕ) → n ≡ length (fields l) → (r : Text) → r ≡ choose n k (fields v) w →
-      r ≡ valueOf (profileOf (textsOf m l v [])) k x
-  unfolding valueOf profileOf layoutCount
-  value-variant w q n e r g = g ∙ sym (rw (q, e))
+    pub value-variant : x ≡ variable.Variant w → r ≡ choose n k (y .variants) w → r ≡ valueOf y k x
+    unfolding valueOf
+    value-variant q g = g ∙ sym (rw (q, e))
 
-  pub value-unknown : x ≡ variable.Unknown → [] ≡ valueOf (profileOf (textsOf m l v [])) k x
+  pub value-unknown : x ≡ variable.Unknown → [] ≡ valueOf y k x
   unfolding valueOf
   value-unknown q = sym (rw q)
 

@@ -109,6 +109,12 @@ filled-of d d′ t o r h l w e =
 
 -- how long a filled word gets
 
+-- no value of a profile is longer than a field
+pub record ShortValues (p : Profile) : Type 0 where
+  pub model : length (p .model) ≤ longestField
+  pub layouts : (i : ℕ) → length (getD (p .layouts) i []) ≤ longestField
+  pub variants : (i : ℕ) → length (getD (p .variants) i []) ≤ longestField
+
 short-field : (t : Text) → longField t ≡ false → length t ≤ longestField
 unfolding longField
 short-field t h = ltb-false longestField (length t) h
@@ -120,31 +126,40 @@ short-one [] (suc i) h = omega arith
 short-one (t ∷ ts) zero h = short-field t (neither (longField t) (anyOf longField ts) h .0)
 short-one (t ∷ ts) (suc i) h = short-one ts i (neither (longField t) (anyOf longField ts) h .1)
 
+pub short-texts : (m l v : Text) → Short m l v → ShortValues (profileOf (textsOf m l v []))
+unfolding profileOf
+short-texts m l v s =
+    record {
+      model = short-field m (s .model);
+      layouts = λ i. short-one (fields l) i (s .layouts);
+      variants = λ i. short-one (fields v) i (s .variants);
+    }
+
 short-cond : (c : Bool) (t : Text) → length t ≤ longestField → length (cond c t []) ≤ longestField
 short-cond true t h = h
 short-cond false t h = omega arith
 
-short-choice : (n k : ℕ) (ts : List Text) (x : Which) → anyOf longField ts ≡ false → length (choose n k ts x) ≤ longestField
+short-choice : (n k : ℕ) (ts : List Text) (x : Which) → ((i : ℕ) → length (getD ts i []) ≤ longestField) → length (choose n k ts x) ≤ longestField
 unfolding choose
-short-choice n k ts which.Alone h = short-cond (eqb n 1) (getD ts 0 []) (short-one ts 0 h)
-short-choice n k ts which.Matched h = short-one ts (k - 1) h
-short-choice n k ts (which.Numbered j) h = short-cond (ltb 1 n && leb j n) (getD ts (j - 1) []) (short-one ts (j - 1) h)
+short-choice n k ts which.Alone h = short-cond (eqb n 1) (getD ts 0 []) (h 0)
+short-choice n k ts which.Matched h = h (k - 1)
+short-choice n k ts (which.Numbered j) h = short-cond (ltb 1 n && leb j n) (getD ts (j - 1) []) (h (j - 1))
 short-choice n k ts which.Wrong h = omega arith
 
-module _ (m l v : Text) (short : Short m l v) (k : ℕ) where
-  short-value : (x : Variable) → length (valueOf (profileOf (textsOf m l v [])) k x) ≤ longestField
-  unfolding valueOf profileOf
-  short-value variable.Model = short-field m (short .model)
-  short-value (variable.Layout w) = short-choice (layoutCount (profileOf (textsOf m l v []))) k (fields l) w (short .layouts)
-  short-value (variable.Variant w) = short-choice (layoutCount (profileOf (textsOf m l v []))) k (fields v) w (short .variants)
+module _ (p : Profile) (short : ShortValues p) (k : ℕ) where
+  short-value : (x : Variable) → length (valueOf p k x) ≤ longestField
+  unfolding valueOf
+  short-value variable.Model = short .model
+  short-value (variable.Layout w) = short-choice (layoutCount p) k (p .layouts) w (short .layouts)
+  short-value (variable.Variant w) = short-choice (layoutCount p) k (p .variants) w (short .variants)
   short-value variable.Unknown = omega arith
 
-  unknown-none : length (valueOf (profileOf (textsOf m l v [])) k variable.Unknown) ≡ 0
+  unknown-none : length (valueOf p k variable.Unknown) ≡ 0
   unfolding valueOf
   unknown-none = refl
 
   -- nothing for no bytes
-  short-item : (x : Variable) → length (valueOf (profileOf (textsOf m l v [])) k x) ≤ longestField * variableLength x
+  short-item : (x : Variable) → length (valueOf p k x) ≤ longestField * variableLength x
   unfolding variableLength
   short-item variable.Model = short-value variable.Model
   short-item (variable.Layout w) = omega (arith, short-value (variable.Layout w))
@@ -159,7 +174,7 @@ module _ (m l v : Text) (short : Short m l v) (k : ℕ) where
       go true = omega arith
       go false = omega arith
 
-  short-piece : (q : Piece) → length (pieceText (profileOf (textsOf m l v [])) k q) ≤ mostPerByte * (1 + pieceLength q)
+  short-piece : (q : Piece) → length (pieceText p k q) ≤ mostPerByte * (1 + pieceLength q)
   unfolding pieceText pieceLength
   short-piece (Byte b) = omega arith
   short-piece Number = omega (arith, short-number)
@@ -167,7 +182,7 @@ module _ (m l v : Text) (short : Short m l v) (k : ℕ) where
   short-piece (Parens x) = go (empty t) (short-value x)
     where
       t : Text
-      t = valueOf (profileOf (textsOf m l v [])) k x
+      t = valueOf p k x
 
       go : (c : Bool) → length t ≤ longestField → length (cond c [] ((40 ∷ t) ++ (41 ∷ []))) ≤ mostPerByte * (1 + (2 + variableLength x))
       go true h = omega arith
@@ -175,7 +190,7 @@ module _ (m l v : Text) (short : Short m l v) (k : ℕ) where
   short-piece (Prefixed b x) = go (empty t) (short-value x) (short-item x)
     where
       t : Text
-      t = valueOf (profileOf (textsOf m l v [])) k x
+      t = valueOf p k x
 
       go : (c : Bool) → length t ≤ longestField → length t ≤ longestField * variableLength x →
           length (cond c [] (b ∷ t)) ≤ mostPerByte * (1 + (1 + variableLength x))
@@ -183,35 +198,35 @@ module _ (m l v : Text) (short : Short m l v) (k : ℕ) where
       go false h i = omega arith
   short-piece Unclosed = omega arith
 
-  short-pieces : (j : ℕ) (t : Text) → length (concatMap (pieceText (profileOf (textsOf m l v [])) k) (pieces j t)) ≤ mostPerByte * (length t - j)
+  short-pieces : (j : ℕ) (t : Text) → length (concatMap (pieceText p k) (pieces j t)) ≤ mostPerByte * (length t - j)
   unfolding pieces concatMap
   short-pieces j [] = omega arith
   short-pieces (suc j) (b ∷ r) = omega (arith, short-pieces j r)
   short-pieces zero (b ∷ r) = go (eqb b 37) (λ j. short-pieces j r)
     where
       f : Piece → Text
-      f = pieceText (profileOf (textsOf m l v [])) k
+      f = pieceText p k
 
       q : Piece
       q = pieceAfter r
 
       short-byte : length (f (Byte b)) ≡ 1
-      short-byte = ap length (byte-text (profileOf (textsOf m l v [])) k b)
+      short-byte = ap length (byte-text p k b)
 
       go : (c : Bool) → ((j : ℕ) → length (concatMap f (pieces j r)) ≤ mostPerByte * (length r - j)) →
           length (concatMap f (elim c [ true ↦ q ∷ pieces (pieceLength q) r | false ↦ Byte b ∷ pieces zero r ])) ≤ mostPerByte * (suc (length r) - 0)
       go true h = omega (arith, length-append (f q) (concatMap f (pieces (pieceLength q) r)), short-piece q, piece-fits r, h (pieceLength q))
       go false h = omega (arith, ap length (concat-cons f (Byte b) (pieces zero r)) ∙ length-append (f (Byte b)) (concatMap f (pieces zero r)), short-byte, h zero)
 
-  pub filled-short : (t : Text) → length (filled (profileOf (textsOf m l v [])) k t) ≤ mostPerByte * length t
+  pub filled-short : (t : Text) → length (filled p k t) ≤ mostPerByte * length t
   unfolding filled
   filled-short t = omega (arith, short-pieces zero t)
 
-  pub going-end : (w d d′ : Text) (i o r : ℕ) → Going (profileOf (textsOf m l v [])) k w d d′ i o → length w ≤ i → mostPerByte * length w ≤ length d →
-      length d ≤ farthest → r ≡ o → Filled d d′ (filled (profileOf (textsOf m l v [])) k w) r
+  pub going-end : (w d d′ : Text) (i o r : ℕ) → Going p k w d d′ i o → length w ≤ i → mostPerByte * length w ≤ length d →
+      length d ≤ farthest → r ≡ o → Filled d d′ (filled p k w) r
   going-end w d d′ i o r g h a b e =
-      filled-of d d′ (filled (profileOf (textsOf m l v [])) k w) o r (omega (arith, filled-short w)) b
-      (going-over (profileOf (textsOf m l v [])) k w d d′ i o g h) e
+      filled-of d d′ (filled p k w) o r (omega (arith, filled-short w)) b
+      (going-over p k w d d′ i o g h) e
 
 -- the loop of `has_percent`: up to i there is none
 pub record NonePercent (w : Text) (i : ℕ) : Type 0 where

@@ -2,7 +2,7 @@ use Rattle.firing.proofs.ValueFires.{behind-count, behind-short, behind
 use borrow.Author.Needs.{needs}
 use Rattle.firing.proofs.rule.fire_line.Statement.{statement}
 use Rattle.firing.proofs.rule.fire_line.Tie as tie
-use Rattle.firing.proofs.rule.behind_first.Reads as behind-first-reads
+use Rattle.firing.proofs.line.behind_first.Reads as behind-first-reads
 use Rattle.firing.proofs.rule.fire_words.Reads as fire-words-reads
 
 behind-first-requires : tie.Need-behind-first-requires

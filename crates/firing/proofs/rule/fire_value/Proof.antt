@@ -1,4 +1,5 @@
 use borrow.Author.Tests.{not-true}
+use Rattle.profile.specs.Profile.{profileOf, layoutCount}
 use Rattle.firing.proofs.ValueFires.{value-fired, plain-fired}
 use Rattle.firing.proofs.Going.{fire-full}
 use borrow.Author.Needs.{needs}
@@ -21,7 +22,8 @@ same-length : tie.Need-same-length
 same-length c = search needs
 
 returns-2 : tie.Need-returns-2
-returns-2 c = plain-fired _ _ _ _ _ _ _ _ _ _ _ _ (c .before .before .before .before .before .before .before .before .before .before .before .before .before .before .pre .0) (c .before .before .before .before .before .has-percent .ensures) (not-true _ (c .before .before .before .before .if2 .taken)) (c .before .before .fire .ensures)
+unfolding profileOf layoutCount
+returns-2 c = plain-fired _ _ _ _ _ _ _ _ _ _ (c .before .before .before .before .before .before .before .before .before .before .before .before .before .before .pre .0) (c .before .before .before .before .before .has-percent .ensures) (not-true _ (c .before .before .before .before .if2 .taken)) (c .before .before .fire .ensures)
 
 fill-value-requires : tie.Need-fill-value-requires
 fill-value-requires c κs = search needs
@@ -45,7 +47,8 @@ same-length-3 : tie.Need-same-length-3
 same-length-3 c = search needs
 
 returns-3 : tie.Need-returns-3
-returns-3 c = value-fired _ _ _ _ _ _ _ _ _ _ _ _ _ _ (c .before .before .before .before .before .before .before .before .before .before .before .before .before .before .before .before .before .before .before .before .pre .0) (c .before .before .before .before .before .before .before .before .fill-value .ensures) (c .before .before .fire2 .ensures)
+unfolding profileOf layoutCount
+returns-3 c = value-fired _ _ _ _ _ _ _ _ _ _ _ _ (c .before .before .before .before .before .before .before .before .before .before .before .before .before .before .before .before .before .before .before .before .pre .0) (c .before .before .before .before .before .before .before .before .fill-value .ensures) (c .before .before .fire2 .ensures)
 
 pub fire-value-spec : {M : Type 1} → statement M
 fire-value-spec =

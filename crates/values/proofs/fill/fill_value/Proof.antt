@@ -4,7 +4,7 @@ use native.Mathlib.Omega.{arith}
 use mathlib.Core.List.{[]}
 use lib.ListN.{length}
 use Rattle.profile.specs.Profile.{textsOf, profileOf}
-use Rattle.values.proofs.Filling.{Going, going-start, going-byte, going-item, going-end, item-high}
+use Rattle.values.proofs.Filling.{Going, going-start, going-byte, going-item, going-end, item-high, short-texts}
 use Rattle.values.proofs.fill.fill_value.Statement.{statement}
 use Rattle.values.proofs.fill.fill_value.Tie as tie
 
@@ -57,7 +57,7 @@ same-length : tie.Need-same-length Inv-loop μ-loop
 same-length c = c .before .before .loop .inv .left .long
 
 returns : tie.Need-returns Inv-loop μ-loop
-returns c = going-end _ _ _ (c .before .before .before .before .before .before .before .before .pre .2) _ _ _ _ _ _ _ (c .before .before .loop .inv) (c .before .loop-test .left) (c .before .before .before .before .before .before .before .before .pre .3) (c .before .before .before .before .before .before .before .before .pre .4) (c .wide .ensures .0)
+returns c = going-end _ (short-texts _ _ _ (c .before .before .before .before .before .before .before .before .pre .2)) _ _ _ _ _ _ _ (c .before .before .loop .inv) (c .before .loop-test .left) (c .before .before .before .before .before .before .before .before .pre .3) (c .before .before .before .before .before .before .before .before .pre .4) (c .wide .ensures .0)
 
 pub fill-value-spec : {M : Type 1} → statement M
 fill-value-spec =

@@ -1,8 +1,8 @@
 use Rattle.firing.proofs.ValueFires.{behind-word, behind-none}
 use Rattle.text.proofs.Readers.{found, stopped}
 use borrow.Author.Needs.{needs}
-use Rattle.firing.proofs.rule.behind_first.Statement.{statement}
-use Rattle.firing.proofs.rule.behind_first.Tie as tie
+use Rattle.firing.proofs.line.behind_first.Statement.{statement}
+use Rattle.firing.proofs.line.behind_first.Tie as tie
 use Rattle.text.proofs.reader.word_at.Reads as word-at-reads
 
 word-at-requires : tie.Need-word-at-requires
