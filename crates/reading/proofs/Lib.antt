@@ -3,3 +3,4 @@ pub mod Owing
 pub mod LeftHolds
 pub mod RuleLines
 pub mod Seeks
+pub mod Keeps

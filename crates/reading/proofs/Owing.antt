@@ -103,10 +103,10 @@ module _ (look : Text → Words) (p : Profile) (o : OpenSet) (kept : Kept) where
       go true e =
           every-cons look p h (layoutsIn o) r rs
           ∙ rw (each-none (λ k. cond (matchesAt r k) (firesAt p h r k) []) (o .count) (o .first) (λ k a b.
-              let z : matchesAt r k ≡ false = rw (w .all e k a b) at (m k a b) in rw z refl)) refl
+          let z : matchesAt r k ≡ false = rw (w .all e k a b) at (m k a b) in rw z refl)) refl
       go false e =
           each-same _ _ (o .count) (o .first) (λ k a b.
-            rw (fires-cons look p h k r rs) (step-miss (firesAt p h r k) (setFires false look p h k rs) (firesAt p h (kept k) k) (isIn k (o .wanted)) (matchesAt r k) (m k a b)))
+          rw (fires-cons look p h k r rs) (step-miss (firesAt p h r k) (setFires false look p h k rs) (firesAt p h (kept k) k) (isIn k (o .wanted)) (matchesAt r k) (m k a b)))
 
   module _ (r : Rule) (rs : List Rule) (m w : ℕ)
       (is : (k : ℕ) → o .first ≤ k → k < o .first + o .count → isIn k m ≡ (isIn k (o .wanted) && matchesAt r k))
@@ -117,8 +117,8 @@ module _ (look : Text → Words) (p : Profile) (o : OpenSet) (kept : Kept) where
     owes-keep e =
         rw e
         (each-same _ _ (o .count) (o .first) (λ k a b.
-          rw (fires-cons look p h k r rs, out k, is k a b, at-cond p h (isIn k (o .wanted) && matchesAt r k) r (kept k) k)
-          (step-hit (firesAt p h r k) (setFires false look p h k rs) (firesAt p h (kept k) k) (isIn k (o .wanted)) (matchesAt r k))))
+        rw (fires-cons look p h k r rs, out k, is k a b, at-cond p h (isIn k (o .wanted) && matchesAt r k) r (kept k) k)
+        (step-hit (firesAt p h r k) (setFires false look p h k rs) (firesAt p h (kept k) k) (isIn k (o .wanted)) (matchesAt r k))))
 
     -- each matching rule fires at once
     pub owes-fire : o .every ≡ true → AllWanted o → setOwes look p o kept (r ∷ rs) ≡ keptFires p (wanting o w) (keeping m r kept) ++ setOwes look p o kept rs
@@ -127,9 +127,9 @@ module _ (look : Text → Words) (p : Profile) (o : OpenSet) (kept : Kept) where
         rw e
         (every-cons look p h (layoutsIn o) r rs
         ∙ ap (λ (x : List Firing). x ++ ruleByRule look p h (layoutsIn o) rs)
-          (each-same _ _ (o .count) (o .first) (λ k a b.
-            let y : isIn k m ≡ matchesAt r k = rw (v .all e k a b) at (is k a b) in
-            rw (out k, v .all e k a b, y, at-cond p h (matchesAt r k) r (kept k) k) (turned (matchesAt r k) (firesAt p h r k) (firesAt p h (kept k) k)))))
+        (each-same _ _ (o .count) (o .first) (λ k a b.
+        let y : isIn k m ≡ matchesAt r k = rw (v .all e k a b) at (is k a b) in
+        rw (out k, v .all e k a b, y, at-cond p h (matchesAt r k) r (kept k) k) (turned (matchesAt r k) (firesAt p h r k) (firesAt p h (kept k) k)))))
       where
         turned : (t : Bool) (a b : List Firing) → cond t a [] ≡ cond (not t) [] (cond t a b)
         turned true a b = refl

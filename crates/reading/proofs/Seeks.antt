@@ -192,8 +192,8 @@ module _ (d : Text) (t rows : List ℕ) (flags : List Bool) (count : ℕ) (o : O
             passed x gs r u kept false z false f =
                 owed-miss (o .present) m (left s from) (w .fault) gs (profileOf x) o kept (follow s next n′) (eqb-false (length (left s from)) 0 z) (u .all)
                 (λ k a b.
-                  rw (← asked-rule gs (profileOf x) k (H .columns) (left s from) (enough-of (eqb-false (o .wanted) 0 f) (eqb-false (length (left s from)) 0 z)))
-                  (left-miss sized from c y g e (asks gs (profileOf x)) (layoutCount (profileOf x)) (answers-of x gs r u) k (λ j. u .among j k a b)))
+                rw (← asked-rule gs (profileOf x) k (H .columns) (left s from) (enough-of (eqb-false (o .wanted) 0 f) (eqb-false (length (left s from)) 0 z)))
+                (left-miss sized from c y g e (asks gs (profileOf x)) (layoutCount (profileOf x)) (answers-of x gs r u) k (λ j. u .among j k a b)))
 
         module _ (done : o .set .left ≤ c) (c-high : c ≤ o .set .left) (hit : y .layouts ≡ 0 → ⊥) where
           wanted : o .wanted ≡ 0 → ⊥
@@ -223,7 +223,11 @@ module _ (d : Text) (t rows : List ℕ) (flags : List Bool) (count : ℕ) (o : O
                     high = g .high;
                     count = ap length behind-is ∙ (length-drop (o .set .left) (left s from) ∙ omega (arith, count-is wanted nonblank));
                     short = rw behind-is (any-drop tooLong (o .set .left) (left s from) (line-short (o .present) m (left s from) (w .fault)));
-                  }, omega (arith, v .low, w .on), w .high, w .fewer);
+                  },
+                  omega (arith, v .low, w .on),
+                  w .high,
+                  w .fewer,
+                );
                 means = λ x gs r u.
                     let p = v .over x gs r u in
                     record {

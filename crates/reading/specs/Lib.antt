@@ -2,3 +2,4 @@ pub mod Order
 pub mod Owed
 pub mod Left
 pub mod Seeking
+pub mod Keeping

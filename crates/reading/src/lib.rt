@@ -1,5 +1,6 @@
 // One reading of a file: each line is judged, and where its set still wants a layout, matched and fired.
 
+pub mod keep;
 pub mod left;
 pub mod seek;
 
@@ -44,4 +45,10 @@ pub enum Sought {
         line: usize,
     },
     End,
+}
+
+// What stays the same over a reading: where the fence stands in the file, and the layout count.
+pub struct Setting {
+    pub fence: usize,
+    pub n: usize,
 }

@@ -44,19 +44,19 @@ enum-known-from c = search needs
 
 -- src/seek.rt:59:17
 loop-holds : tie.Need-loop-holds Inv-loop μ-loop Inv-rules μ-rules
-loop-holds c = 
+loop-holds c =
     let w = line-told _ _ _ _ _ (c .before .before .before .rule-line .ensures) _ _ _ _ (c .before .from .given .1) in
     (left-start _ _ _ _ _ _ _ _ _ (w .inside) (w .few), search needs, refl, refl)
 
 -- src/seek.rt:45:5
 rules-less : tie.Need-rules-less Inv-loop μ-loop Inv-rules μ-rules
-rules-less c = 
+rules-less c =
     let w = line-told _ _ _ _ _ (c .before .before .before .before .before .before .before .before .rule-line .ensures) _ _ _ _ (c .before .before .before .before .before .before .from .given .1) in
     omega (arith, w .on, c .before .before .before .before .before .before .before .before .before .rules-test .taken, w .high)
 
 -- src/seek.rt:45:5
 rules-again : tie.Need-rules-again Inv-loop μ-loop Inv-rules μ-rules
-rules-again c = 
+rules-again c =
     let w = line-told _ _ _ _ _ (c .before .before .before .before .before .before .before .before .rule-line .ensures) _ _ _ _ (c .before .before .before .before .before .before .from .given .1) in
     let p = c .before .before .before .before .before .before .before .before .before .before .before .before .before .before .before .before .pre in
     let v = c .before .before .before .before .loop .inv in
@@ -84,19 +84,19 @@ loop-less c = search needs
 
 -- src/seek.rt:59:17
 loop-again : tie.Need-loop-again Inv-loop μ-loop Inv-rules μ-rules
-loop-again c = 
+loop-again c =
     let v = c .before .before .before .before .before .loop .inv in
     (left-more _ _ _ _ _ _ _ (c .before .before .before .before .before .before .before .before .before .before .before .before .before .before .before .before .before .pre .2) _ _ _ (v .0) (c .before .before .before .if1 .taken) (c .before .if2 .left) _ (c .left-word .ensures), search needs, v .2, v .3)
 
 -- src/seek.rt:45:5
 rules-less-2 : tie.Need-rules-less-2 Inv-loop μ-loop Inv-rules μ-rules
-rules-less-2 c = 
+rules-less-2 c =
     let w = line-told _ _ _ _ _ (c .before .before .before .before .before .before .before .before .rule-line .ensures) _ _ _ _ (c .before .before .before .before .before .before .from .given .1) in
     omega (arith, w .on, c .before .before .before .before .before .before .before .before .before .rules-test .taken, w .high)
 
 -- src/seek.rt:45:5
 rules-again-2 : tie.Need-rules-again-2 Inv-loop μ-loop Inv-rules μ-rules
-rules-again-2 c = 
+rules-again-2 c =
     let w = line-told _ _ _ _ _ (c .before .before .before .before .before .before .before .before .rule-line .ensures) _ _ _ _ (c .before .before .before .before .before .before .from .given .1) in
     let p = c .before .before .before .before .before .before .before .before .before .before .before .before .before .before .before .before .pre in
     let v = c .before .before .before .before .loop .inv in
@@ -116,7 +116,7 @@ returns c = rw (c .before .rules .inv .1) (seek-end _ _ _ _ _ _ _ _ _ _ _ (c .be
 
 -- src/seek.rt:18:1
 returns-2 : tie.Need-returns-2 Inv-loop μ-loop Inv-rules μ-rules
-returns-2 c = 
+returns-2 c =
     let w = line-told _ _ _ _ _ (c .before .before .before .before .before .before .before .before .rule-line .ensures) _ _ _ _ (c .before .before .before .before .before .before .from .given .1) in
     let p = c .before .before .before .before .before .before .before .before .before .before .before .before .before .before .before .before .pre in
     let v = c .before .before .before .before .loop .inv in
