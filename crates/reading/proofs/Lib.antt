@@ -4,3 +4,4 @@ pub mod LeftHolds
 pub mod RuleLines
 pub mod Seeks
 pub mod Keeps
+pub mod Opens

@@ -3,3 +3,4 @@ pub mod Owed
 pub mod Left
 pub mod Seeking
 pub mod Keeping
+pub mod Opening

@@ -2,6 +2,7 @@
 
 pub mod keep;
 pub mod left;
+pub mod opening;
 pub mod seek;
 
 use rules::Present;
