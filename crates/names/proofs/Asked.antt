@@ -37,7 +37,7 @@ use Rattle.names.specs.Ready.{Ready}
 use Rattle.names.proofs.Searching.{numbered-none}
 use Rattle.names.proofs.Joining.{says-none}
 use Rattle.names.proofs.Renewing.{filled-new, with-star}
-use Rattle.names.proofs.GroupLines.{whole}
+use Rattle.names.proofs.Defining.{whole}
 use Rattle.names.proofs.Marking.{filled-same, marked-nothing, marked-same, marked-then}
 use Rattle.names.proofs.Placing.{lies-part, lies-options, lies-star, length-four, short-texts, values-of}
 use Rattle.names.proofs.Tests.{or-none, or-assoc, and-none, and-all}
