@@ -371,6 +371,28 @@ module _ (x : Texts) (h : profileRefusals x ≡ []) where
               ∙ field-value (x .variants) (length (x .model) + length (x .layouts)) (k - 1) (33 + (k - 1)) (lies-variants x) (p .variant .here (k - 1) (omega arith)));
         }
 
+-- in a text that is made longer
+value-longer : (s w : Text) (b : List ℕ) (j : ℕ) → InText s (getD b (2 * j) 0) (getD b (2 * j + 1) 0) → valueAt (s ++ w) b j ≡ valueAt s b j
+unfolding valueAt
+value-longer s w b j p = part-longer s w (getD b (2 * j) 0) (getD b (2 * j + 1) 0) (p .low) (p .high)
+
+pub values-longer : (x : Texts) (s w : Text) (b : List ℕ) → ValuesOf x s b → ValuesOf x (s ++ w) b
+values-longer x s w b v =
+    record {
+      placed =
+          record {
+            size = v .placed .size;
+            place = λ j l.
+                record { low = v .placed .place j l .low; high = omega (arith, v .placed .place j l .high, length-append s w); short = v .placed .place j l .short };
+          };
+      model = longer 0 (omega arith) ∙ v .model;
+      layout = λ k a l. longer (0 + k) (omega arith) ∙ v .layout k a l;
+      variant = λ k a l. longer (32 + k) (omega arith) ∙ v .variant k a l;
+    }
+  where
+    longer : (j : ℕ) → j < mostValues → valueAt (s ++ w) b j ≡ valueAt s b j
+    longer j l = value-longer s w b j (v .placed .place j l)
+
 -- the loop of `some_set`
 
 pub record SomeSo (b : List ℕ) (before k s : ℕ) : Type 0 where

@@ -41,7 +41,7 @@ valuesAsk s b (suc j) k c w = valuesAsk s b j k c w || valueAsks (valueAt s b j)
 unfoldable pub optionsAsk : List Text → Question
 optionsAsk vs k c w = anyOf (λ v. valueAsks v (λ i d. isOptions d) k c w) vs
 
--- where `*` matches: "always for model and option; for layout and variant it matches a non-empty value"
+-- "`*` always matches for model and option, with no options too; for layout and variant it matches a non-empty value."
 unfoldable pub starAt : Text → List ℕ → ℕ → Column → Bool
 starAt s b k column.Model = true
 starAt s b k column.Layout = not (empty (valueAt s b (beforeLayouts + k)))
