@@ -152,6 +152,19 @@ module _ (s : Text) (from n : ℕ) where
               passing-then s from n i m (record { low = v .low; high = v .high; few = v .few; onto = v .onto }) (r .at) (r .line) (f .passed);
         }
 
+-- a rule fires the same with any profile that has the same values
+
+module _ (p p′ : Profile) (k : ℕ) (same : (w : Text) → expanded p k w ≡ expanded p′ k w) where
+  fires-same : (l : ℕ) (cs : List ℕ) (ws : Words) → ruleFires p l k cs ws ≡ ruleFires p′ l k cs ws
+  unfolding ruleFires
+  fires-same l [] ws = refl
+  fires-same l (c ∷ cs) [] = refl
+  fires-same l (c ∷ cs) (w ∷ ws) = rw (same w, fires-same l cs ws)
+
+  pub rule-same : (d d′ : Text) (q q′ : Cursors) (cs : List ℕ) (ws : Words) → FiredRule p d d′ q q′ k cs ws → FiredRule p′ d d′ q q′ k cs ws
+  rule-same d d′ q q′ cs ws f =
+      record { bytes = λ l. rw (fires-same l cs ws) at (f .bytes l); places = λ l. rw (fires-same l cs ws) at (f .places l) }
+
 -- one word after the other, and the right words of a rule
 
 pub fires-again : (s : Text) (b : List ℕ) (n k : ℕ) (x x′ d d′ : Text) (q q′ : Cursors) → Fires s b n k x d q → length x′ ≡ length x → length d′ ≡ length d →
