@@ -1,1 +1,4 @@
 pub mod RuleLines
+pub mod Indexed
+pub mod SetLines
+pub mod GroupLines
