@@ -5,3 +5,4 @@ pub mod RuleLines
 pub mod Seeks
 pub mod Keeps
 pub mod Opens
+pub mod HeadLines

@@ -1,0 +1,147 @@
+-- A heading ends the set before it: what it is, and what it leaves to be refused and to fire.
+use Prim.Native.Nat.{ℕ, _+_, _≤_, _<_}
+use native.Mathlib.Omega.{arith}
+use mathlib.Core.Path.{_≡_, refl, sym, ap, _∙_}
+use mathlib.Core.List.{List, [], _∷_, _++_, map}
+use mathlib.Core.Bool.{Bool, true, false, _||_, _&&_, cond}
+use lib.ListN.{length}
+use lib.Dec.{eqb, leb}
+use borrow.Author.Tests.{ne-eqb, eq-eqb}
+use Rattle.text.specs.declared.Refusal.{Refusal}
+use Rattle.text.specs.Limits.{mostGroups}
+use Rattle.text.specs.Bytes.{Text, Words, bytes, same, anyOf, allOf}
+use Rattle.text.specs.Lines.{Line}
+use Rattle.text.specs.Words.{wordsFault}
+use Rattle.text.specs.Refusals.{refusedIf, refusedAs, firstRefusal}
+use Rattle.text.proofs.Lists.{no}
+use Rattle.profile.specs.Profile.{Profile}
+use Rattle.rules.specs.declared.Present.{Present}
+use Rattle.rules.specs.Words.{isEquals, hasDollar, ordinary, isGroupName}
+use Rattle.rules.specs.Headings.{Heading, goodItems}
+use Rattle.rules.specs.Entries.{Entry, ignored, wrong, group, set, rule, setShape, setEntry, groupEntry, headingEntry, entryOf}
+use Rattle.rules.specs.Sections.{applies}
+use Rattle.rules.specs.Faults.{Group, Groups, defined}
+use Rattle.rules.specs.Checking.{lineOf, noHeading, presentOf, lineFault, presentAfter, namesAfter, checkFrom}
+use Rattle.rules.proofs.CheckSteps.{check-cons}
+use Rattle.answers.specs.Matching.{members}
+use Rattle.answers.specs.Firings.{Firing}
+use Rattle.reading.specs.declared.OpenSet.{OpenSet}
+use Rattle.reading.specs.Order.{headFires, rulesFrom, firingsFrom}
+use Rattle.reading.specs.Owed.{Kept, AllWanted, setOwes, owed, keptFires}
+use Rattle.reading.proofs.LineFires.{nextRules, rules-line, rules-none, nextFirings, firings-line, firings-none}
+use Rattle.reading.proofs.Owing.{owes-end}
+
+-- a heading is no rule
+
+isHead : Entry → Bool
+isHead ignored = false
+isHead (wrong k) = true
+isHead (group g ms) = true
+isHead (set h) = true
+isHead (rule ws) = false
+
+either : (t : Bool) (a b : Entry) → isHead a ≡ true → isHead b ≡ true → isHead (cond t a b) ≡ true
+either true a b h k = h
+either false a b h k = k
+
+set-head : (ws : Words) → isHead (setEntry ws) ≡ true
+unfolding setEntry isHead
+set-head ws = either (setShape ws) _ (wrong 6) (either (goodItems _ _) _ (wrong 7) refl refl) refl
+
+group-head : (n : Text) (ws : Words) → isHead (groupEntry n ws) ≡ true
+unfolding groupEntry isHead
+group-head n [] = refl
+group-head n (e ∷ ws) = either (isGroupName n && (isEquals e && allOf ordinary ws)) _ (wrong 6) refl refl
+
+heading-head : (ws : Words) → isHead (headingEntry ws) ≡ true
+unfolding headingEntry isHead
+heading-head [] = refl
+heading-head (w ∷ ws) = either (hasDollar w) (groupEntry w ws) _ (group-head w ws) (either (same w (bytes "include")) (wrong 9) (setEntry (w ∷ ws)) refl (set-head (w ∷ ws)))
+
+line-head : (n : ℕ) (ws : Words) → isHead (entryOf (lineOf n true ws)) ≡ true
+unfolding entryOf isHead
+line-head n ws = either (eqb (wordsFault ws) 0) (headingEntry ws) (wrong (wordsFault ws)) (heading-head ws) refl
+
+head-rules : (n : ℕ) (e : Entry) (ls : List Line) → isHead e ≡ true → nextRules n e ls ≡ []
+unfolding nextRules isHead
+head-rules n ignored ls h = absurd (no h)
+head-rules n (wrong k) ls h = refl
+head-rules n (group g ms) ls h = refl
+head-rules n (set g) ls h = refl
+head-rules n (rule ws) ls h = absurd (no h)
+
+module _ (gs : Groups) (p : Profile) (o : OpenSet) (all : AllWanted o) (kept : Kept) where
+  -- the end of the file
+  pub owed-end : owed gs p o kept [] ≡ keptFires p o kept ++ []
+  unfolding owed
+  owed-end = rw (rules-none, firings-none gs p, owes-end (members gs) p o kept all) refl
+
+  -- a heading
+  pub owed-close : (n : ℕ) (ws : Words) (ls : List Line) → owed gs p o kept (lineOf n true ws ∷ ls) ≡ keptFires p o kept ++ firingsFrom gs p (lineOf n true ws ∷ ls)
+  unfolding owed
+  owed-close n ws ls =
+      let e : rulesFrom (lineOf n true ws ∷ ls) ≡ [] = rules-line (lineOf n true ws) ls ∙ head-rules n (entryOf (lineOf n true ws)) ls (line-head n ws) in
+      rw (e, owes-end (members gs) p o kept all) refl
+
+-- what the heading fires, with what follows
+
+module _ (gs : Groups) (p : Profile) (n : ℕ) (ws : Words) (ls : List Line) where
+  pub fires-set : (h : Heading) → entryOf (lineOf n true ws) ≡ set h → firingsFrom gs p (lineOf n true ws ∷ ls) ≡ headFires gs p (applies h) (rulesFrom ls) ++ firingsFrom gs p ls
+  unfolding nextFirings
+  fires-set h e = firings-line gs p (lineOf n true ws) ls ∙ rw e refl
+
+  pub fires-group : (g : Text) (ms : Words) → entryOf (lineOf n true ws) ≡ group g ms →
+      firingsFrom gs p (lineOf n true ws ∷ ls) ≡ firingsFrom (record { name = g; members = ms } ∷ gs) p ls
+  unfolding nextFirings
+  fires-group g ms e = firings-line gs p (lineOf n true ws) ls ∙ rw e refl
+
+-- what is refused of it
+
+refused-first : (f n : ℕ) (rs : List Refusal) → (f ≡ 0 → ⊥) → firstRefusal (refusedAs f n ++ rs) ≡ record { number = f; place = n }
+unfolding refusedAs refusedIf firstRefusal
+refused-first f n rs h = rw (ne-eqb f 0 h)
+
+refused-none : (f n : ℕ) (rs : List Refusal) → f ≡ 0 → refusedAs f n ++ rs ≡ rs
+unfolding refusedAs refusedIf
+refused-none f n rs h = rw h
+
+defined-names : (gs : Groups) (n : Text) → defined gs n ≡ anyOf (same n) (map (λ (g : Group). g .name) gs)
+unfolding defined anyOf
+defined-names [] n = refl
+defined-names (g ∷ gs) n = rw (defined-names gs n) refl
+
+names-length : (gs : Groups) → length (map (λ (g : Group). g .name) gs) ≡ length gs
+names-length [] = refl
+names-length (g ∷ gs) = ap (λ (i : ℕ). Prim.Native.Nat.suc i) (names-length gs)
+
+module _ (ns : List Text) (p : Present) (n : ℕ) (ws : Words) (ls : List Line) where
+  pub faults-wrong : (k : ℕ) → (k ≡ 0 → ⊥) → entryOf (lineOf n true ws) ≡ wrong k → firstRefusal (checkFrom ns p (lineOf n true ws ∷ ls)) ≡ record { number = k; place = n }
+  unfolding lineFault
+  faults-wrong k z e = rw (check-cons ns p (lineOf n true ws) ls, e) (refused-first k n _ z)
+
+  pub faults-set : (h : Heading) → entryOf (lineOf n true ws) ≡ set h → checkFrom ns p (lineOf n true ws ∷ ls) ≡ checkFrom ns (presentOf h) ls
+  unfolding lineFault namesAfter presentAfter
+  faults-set h e = check-cons ns p (lineOf n true ws) ls ∙ rw e (refused-none 0 n _ refl)
+
+group-carries : (p : Present) (ls : List Line) (g : Text) (ms : Words) (ns : List Text) →
+    checkFrom (namesAfter ns (group g ms)) (presentAfter p (group g ms)) ls ≡ checkFrom (g ∷ ns) noHeading ls
+unfolding namesAfter presentAfter
+group-carries p ls g ms ns = refl
+
+module _ (gs : Groups) (p : Present) (n : ℕ) (ws : Words) (ls : List Line) (g : Text) (ms : Words) (e : entryOf (lineOf n true ws) ≡ group g ms) where
+  group-fault : lineFault (map (λ (g : Group). g .name) gs) p (group g ms) ≡ cond (defined gs g || leb mostGroups (length gs)) 10 0
+  unfolding lineFault
+  group-fault = rw (← defined-names gs g, names-length gs) refl
+
+  -- refusal 10
+  pub faults-twice : defined gs g || leb mostGroups (length gs) ≡ true →
+      firstRefusal (checkFrom (map (λ (g : Group). g .name) gs) p (lineOf n true ws ∷ ls)) ≡ record { number = 10; place = n }
+  faults-twice t =
+      let f : lineFault (map (λ (g : Group). g .name) gs) p (entryOf (lineOf n true ws)) ≡ 10 = ap (lineFault (map (λ (g : Group). g .name) gs) p) e ∙ (group-fault ∙ rw t refl) in
+      rw (check-cons (map (λ (g : Group). g .name) gs) p (lineOf n true ws) ls) (rw f (refused-first 10 n _ (λ z. absurd (omega arith))))
+
+  pub faults-group : defined gs g || leb mostGroups (length gs) ≡ false →
+      checkFrom (map (λ (g : Group). g .name) gs) p (lineOf n true ws ∷ ls) ≡ checkFrom (g ∷ map (λ (g : Group). g .name) gs) noHeading ls
+  faults-group t =
+      let f : lineFault (map (λ (g : Group). g .name) gs) p (entryOf (lineOf n true ws)) ≡ 0 = ap (lineFault (map (λ (g : Group). g .name) gs) p) e ∙ (group-fault ∙ rw t refl) in
+      check-cons (map (λ (g : Group). g .name) gs) p (lineOf n true ws) ls ∙ (refused-none _ n _ f ∙ rw e (group-carries p ls g ms (map (λ (g : Group). g .name) gs)))
