@@ -129,9 +129,6 @@ no-members : (d : Text) (t rows : List ℕ) (flags : List Bool) (count : ℕ) �
 no-members d t rows flags count = record { means = λ q n v k c a b. says-none k c ∙ sym (any-nil (q k c)) }
 
 module _ (s : Text) (x : FirstWord) (w : DollarWord s x) (d : Text) (t rows : List ℕ) (flags : List Bool) (count : ℕ) where
-  name : Text
-  name = part s (x .start) (x .end)
-
   pub group-none : (p m r : ℕ) → NoWord s (x .end) (x .line) p m → r ≡ groupFault (x .fault) false →
       GroupLineOf s x d t rows flags count (record { fault = r; row = record { layouts = 0; variants = 0 }; next = p; after = m })
   group-none p m r u k =

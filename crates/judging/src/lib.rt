@@ -30,7 +30,7 @@ pub struct Judged {
     pub after: usize,
 }
 
-// The heading of a set, or the line's refusal; `set` is then NO_SET.
+// The heading of a set, or the line's refusal; `set` is then empty: `noSet` of specs/Sets.antt.
 pub struct SetJudged {
     pub fault: usize,
     pub set: SetHeading,

@@ -1,19 +1,13 @@
 use borrow.Author.Needs.{needs}
 use Rattle.judging.proofs.group.and_ordinary.Statement.{statement}
 use Rattle.judging.proofs.group.and_ordinary.Tie as tie
-use Rattle.judging.proofs.group.and_ordinary.Reads as reads
-use Rattle.judging.proofs.group.and_ordinary.Lts as lts
-use Rattle.rules.proofs.words.is_ordinary.Reads as is-ordinary-reads
 
--- src/group.rt:63:9
 is-ordinary-requires : tie.Need-is-ordinary-requires
 is-ordinary-requires c κs = search needs
 
--- src/group.rt:63:9
 returns : tie.Need-returns
 returns c = rw (c .before .if1 .taken) (c .is-ordinary .ensures)
 
--- src/group.rt:59:1
 returns-2 : tie.Need-returns-2
 returns-2 c = search needs
 

@@ -4,31 +4,26 @@ use Rattle.text.proofs.Readers.{found, stopped}
 use native.Mathlib.Omega.{arith}
 use Rattle.judging.proofs.group.first_word.Statement.{statement}
 use Rattle.judging.proofs.group.first_word.Tie as tie
-use Rattle.judging.proofs.group.first_word.Reads as reads
-use Rattle.judging.proofs.group.first_word.Lts as lts
-use Rattle.text.proofs.reader.word_at.Reads as word-at-reads
 
--- src/group.rt:27:11
 word-at-requires : tie.Need-word-at-requires
 word-at-requires c κs = search needs
 
--- src/group.rt:29:13
 enum-known-start : tie.Need-enum-known-start
 enum-known-start c = search needs
 
--- src/group.rt:34:21
 shared-slice-read-t13 : tie.Need-shared-slice-read-t13
-shared-slice-read-t13 c = let u = found _ _ _ _ _ _ _ _ (c .before .before .start .given .1) (c .before .before .before .before .word-at .ensures) in omega (arith, u .some, u .high)
+shared-slice-read-t13 c =
+    let the-word-at = c .before .before .before .before .word-at in
+    let u = found _ _ _ _ _ _ _ _ (c .before .before .start .given .1) (the-word-at .ensures) in omega (arith, u .some, u .high)
 
--- src/group.rt:40:44
 enum-told : tie.Need-enum-told
 enum-told c = search needs
 
--- src/group.rt:23:1
 returns : tie.Need-returns
-returns c = first-found _ _ _ _ _ _ _ (found _ _ _ _ _ _ _ _ (c .before .before .start .given .1) (c .before .before .before .before .word-at .ensures))
+returns c =
+    let the-word-at = c .before .before .before .before .word-at in
+    first-found _ _ _ _ _ _ _ (found _ _ _ _ _ _ _ _ (c .before .before .start .given .1) (the-word-at .ensures))
 
--- src/group.rt:23:1
 returns-2 : tie.Need-returns-2
 returns-2 c = first-none _ _ _ (stopped _ _ _ _ _ _ (c .enum-told .given .1) (c .before .before .word-at .ensures) .none)
 

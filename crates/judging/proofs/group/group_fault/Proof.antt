@@ -3,20 +3,15 @@ use borrow.Author.Tests.{eq-eqb, ne-eqb}
 use Rattle.judging.specs.Groups.{groupFault}
 use Rattle.judging.proofs.group.group_fault.Statement.{statement}
 use Rattle.judging.proofs.group.group_fault.Tie as tie
-use Rattle.judging.proofs.group.group_fault.Reads as reads
-use Rattle.judging.proofs.group.group_fault.Lts as lts
 
--- src/group.rt:136:9
 returns : tie.Need-returns
 unfolding groupFault
 returns c = rw (ne-eqb _ _ (c .if1 .taken)) refl
 
--- src/group.rt:132:1
 returns-2 : tie.Need-returns-2
 unfolding groupFault
 returns-2 c = rw (eq-eqb _ _ (c .before .if1 .left), c .if2 .taken) refl
 
--- src/group.rt:132:1
 returns-3 : tie.Need-returns-3
 unfolding groupFault
 returns-3 c = rw (eq-eqb _ _ (c .before .if1 .left), c .if2 .left) refl
