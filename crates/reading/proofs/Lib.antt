@@ -6,3 +6,4 @@ pub mod Seeks
 pub mod Keeps
 pub mod Opens
 pub mod HeadLines
+pub mod KeptTold

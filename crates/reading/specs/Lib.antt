@@ -4,3 +4,4 @@ pub mod Left
 pub mod Seeking
 pub mod Keeping
 pub mod Opening
+pub mod States

@@ -5,6 +5,7 @@ pub mod left;
 pub mod opening;
 pub mod seek;
 
+use firing::Cursors;
 use rules::Present;
 use rules::SetHeading;
 
@@ -52,4 +53,19 @@ pub enum Sought {
 pub struct Setting {
     pub fence: usize,
     pub n: usize,
+}
+
+// How far a reading has come: the start of the next line and its number; the used bytes of the names' text, the names and the groups so far; the set that is being
+// read and the places of its kept rules; what is written; the refusal of that line, or 0; and whether there is more to read.
+pub struct Reading {
+    pub at: usize,
+    pub line: usize,
+    pub used: usize,
+    pub count: usize,
+    pub groups: usize,
+    pub set: OpenSet,
+    pub places: [usize; 33],
+    pub cursors: Cursors,
+    pub fault: usize,
+    pub more: bool,
 }
