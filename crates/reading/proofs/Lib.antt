@@ -7,3 +7,4 @@ pub mod Keeps
 pub mod Opens
 pub mod HeadLines
 pub mod KeptTold
+pub mod Stepping

@@ -224,7 +224,8 @@ module _ (d : Text) (t rows : List ℕ) (flags : List Bool) (count : ℕ) (o : O
                     count = ap length behind-is ∙ (length-drop (o .set .left) (left s from) ∙ omega (arith, count-is wanted nonblank));
                     short = rw behind-is (any-drop tooLong (o .set .left) (left s from) (line-short (o .present) m (left s from) (w .fault)));
                   },
-                  omega (arith, v .low, w .on),
+                  wanted,
+                omega (arith, v .low, w .on),
                   w .high,
                   w .fewer,
                 );

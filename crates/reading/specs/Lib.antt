@@ -5,3 +5,4 @@ pub mod Seeking
 pub mod Keeping
 pub mod Opening
 pub mod States
+pub mod Steps

@@ -58,11 +58,11 @@ pub record RuleFound (x : Texts) (gs : Groups) (o : OpenSet) (s : Text) (at n pl
       owed gs (profileOf x) o kept (follow s at n) ≡ keptFires (profileOf x) (wanting o w) (keeping m rule kept) ++ owed gs (profileOf x) o kept (follow s next n′)
 
 -- where the walk has come to
-abbrev pub SoughtAt : SetHeading → Text → ℕ → Sought → Type 0
-SoughtAt h s at (sought.Rule place m next n′) = PlaceAt h s place × (at < next) × (next ≤ length s) × (n′ ≤ next + 1)
-SoughtAt h s at (sought.Heading i n from m) = (at ≤ i) × (i < length s) × (n ≤ i + 1) × Opens s i n true from m
-SoughtAt h s at (sought.Refused k n) = k ≡ 0 → ⊥
-SoughtAt h s at sought.End = Unit {0}
+abbrev pub SoughtAt : OpenSet → Text → ℕ → Sought → Type 0
+SoughtAt o s at (sought.Rule place m next n′) = PlaceAt (o .set) s place × (o .wanted ≡ 0 → ⊥) × (at < next) × (next ≤ length s) × (n′ ≤ next + 1)
+SoughtAt o s at (sought.Heading i n from m) = (at ≤ i) × (i < length s) × (n ≤ i + 1) × Opens s i n true from m
+SoughtAt o s at (sought.Refused k n) = k ≡ 0 → ⊥
+SoughtAt o s at sought.End = Unit {0}
 
 -- and what has been passed over
 abbrev pub SoughtOf : Texts → Groups → OpenSet → Text → ℕ → ℕ → Sought → Type 0
@@ -74,5 +74,5 @@ SoughtOf x gs o s at n sought.End = ((ns : List Text) → checkFrom ns (o .prese
 
 -- for every profile and all groups that the names are held for
 pub record Seeks (d : Text) (t rows : List ℕ) (flags : List Bool) (count : ℕ) (o : OpenSet) (s : Text) (at n : ℕ) (r : Sought) : Type 0 where
-  pub place : SoughtAt (o .set) s at r
+  pub place : SoughtAt o s at r
   pub means : (x : Texts) (gs : Groups) → Ready x gs d t rows flags count → SetOpen (layoutCount (profileOf x)) o → SoughtOf x gs o s at n r

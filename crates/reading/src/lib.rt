@@ -4,6 +4,7 @@ pub mod keep;
 pub mod left;
 pub mod opening;
 pub mod seek;
+pub mod states;
 
 use firing::Cursors;
 use rules::Present;
