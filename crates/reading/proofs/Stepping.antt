@@ -151,3 +151,200 @@ module _ (n : ℕ) (s d : Text) (t rows : List ℕ) (flags : List Bool) (b : Lis
               (λ q. let y : getD ps′ k 0 ≡ place = e .at k a l ∙ rw q refl in rw y (g .place .0))
               (λ p q. let y : getD ps′ k 0 ≡ getD (r .places) k 0 = e .at k a l ∙ rw q refl in rw y (v .kept .place k a l p));
         }
+
+    found-for : (w₀ : Text) (q₀ : Cursors) (p : Texts) (u : ReadTo w₀ q₀ n s d t rows flags b w p r) → RuleFound p (u .groups) (r .set) s (r .at) (r .line) place m next n′
+    found-for w₀ q₀ p u = g .means p (u .groups) (u .ready) (rw (← u .layouts) (v .set))
+
+    words-kept : (w₀ : Text) (q₀ : Cursors) (p : Texts) (u : ReadTo w₀ q₀ n s d t rows flags b w p r) → (k : ℕ) → r .set .first ≤ k → k < r .set .first + r .set .count → isIn k o′ ≡ false →
+        drop 1 (left s (getD ps′ k 0)) ≡ rightWords (headingBy (r .set .set)) (keeping m (found-for w₀ q₀ p u .rule) (u .rules) k .text)
+    unfolding keeping
+    words-kept w₀ q₀ p u k a l z =
+        step-kept k z
+        (λ q.
+          let y : getD ps′ k 0 ≡ place = e .at k a l ∙ rw q refl in
+          let c : cond (isIn k m) (found-for w₀ q₀ p u .rule) (u .rules k) ≡ found-for w₀ q₀ p u .rule = rw q refl in
+          ap (λ (i : ℕ). drop 1 (left s i)) y ∙ (found-for w₀ q₀ p u .words ∙ ap (λ (y : Rule). rightWords (headingBy (r .set .set)) (y .text)) (sym c)))
+        (λ z q.
+          let y : getD ps′ k 0 ≡ getD (r .places) k 0 = e .at k a l ∙ rw q refl in
+          let c : cond (isIn k m) (found-for w₀ q₀ p u .rule) (u .rules k) ≡ u .rules k = rw q refl in
+          ap (λ (i : ℕ). drop 1 (left s i)) y ∙ (u .words k a l z ∙ ap (λ (y : Rule). rightWords (headingBy (r .set .set)) (y .text)) (sym c)))
+
+    -- it is kept
+    module _ (once : r .set .every ≡ false) where
+      keep-sound : Sound n s d t rows flags b x w (nextAt r next n′ (wanting (r .set) o′) ps′ (r .cursors))
+      keep-sound =
+          record {
+            high = g .place .3;
+            few = g .place .4;
+            used = v .used;
+            room = v .room;
+            names = v .names;
+            tables = v .tables;
+            set =
+                record {
+                  sized = v .set .sized;
+                  left = v .set .left;
+                  right = v .set .right;
+                  heading = λ z. v .set .heading (g .place .1);
+                  among = v .set .among;
+                  all = record { all = λ z. absurd (no (sym once ∙ z)) };
+                  some = v .set .some;
+                };
+            kept = kept-places;
+            fires = v .fires;
+          }
+
+      keep-read : (w₀ : Text) (q₀ : Cursors) (p : Texts) (u : ReadTo w₀ q₀ n s d t rows flags b w p r) →
+          ReadTo w₀ q₀ n s d t rows flags b w p (nextAt r next n′ (wanting (r .set) o′) ps′ (r .cursors))
+      keep-read w₀ q₀ p u =
+          let f = found-for w₀ q₀ p u in
+          let y = f .keeps once (u .rules) o′ out in
+          record {
+            groups = u .groups;
+            rules = keeping m (f .rule) (u .rules);
+            ready = u .ready;
+            values = u .values;
+            layouts = u .layouts;
+            variants = u .variants;
+            number = u .number;
+            words = words-kept w₀ q₀ p u;
+            faults = u .faults ∙ f .faults (namesOf (u .groups));
+            writes =
+                record {
+                  long = u .writes .long;
+                  bytes = u .writes .bytes ∙ ap (runBuf w (r .cursors)) y;
+                  places = u .writes .places ∙ ap (runCur (r .cursors)) y;
+                };
+          }
+
+      pub step-keep : Stepped n s d d t t rows rows flags flags b x x w w r (nextAt r next n′ (wanting (r .set) o′) ps′ (r .cursors))
+      step-keep =
+          record {
+            text = refl;
+            scratch = refl;
+            buffer = refl;
+            sound = λ z. keep-sound;
+            further = λ z. g .place .2;
+            means = λ w₀ q₀ p u. record { refused = λ z. absurd (z refl); on = λ z. keep-read w₀ q₀ p u; end = λ z y. absurd (no (sym y)) };
+          }
+
+    -- each matching rule fires at once
+    module _ (each : r .set .every ≡ true) (x′ w′ : Text) (q′ : Cursors) (long : length x′ ≡ length x)
+        (f : KeptFired (profileAt (take (r .used) d) b n) (wanting (r .set) o′) s ps′ w w′ (r .cursors) q′) where
+      fire-sound : Sound n s d t rows flags b x′ w′ (nextAt r next n′ (r .set) ps′ q′)
+      fire-sound =
+          record {
+            high = g .place .3;
+            few = g .place .4;
+            used = v .used;
+            room = v .room;
+            names = v .names;
+            tables = v .tables;
+            set = v .set;
+            kept =
+                record {
+                  size = e .size;
+                  range = v .kept .range;
+                  place = λ k a l z. absurd (no (sym z ∙ v .set .all .all each k a l));
+                };
+            fires = fired-fires (wanting (r .set) o′) ps′ x′ w′ q′ long f;
+          }
+
+      fire-read : (w₀ : Text) (q₀ : Cursors) (p : Texts) (u : ReadTo w₀ q₀ n s d t rows flags b w p r) → ReadTo w₀ q₀ n s d t rows flags b w′ p (nextAt r next n′ (r .set) ps′ q′)
+      fire-read w₀ q₀ p u =
+          let h = found-for w₀ q₀ p u in
+          let y = fired-writes (wanting (r .set) o′) ps′ x′ w′ q′ long f w₀ q₀ p u (keeping m (h .rule) (u .rules))
+              (owed (u .groups) (profileOf p) (r .set) (u .rules) (follow s next n′)) (words-kept w₀ q₀ p u) (h .fires each (u .rules) o′ out) in
+          record {
+            groups = u .groups;
+            rules = u .rules;
+            ready = u .ready;
+            values = u .values;
+            layouts = u .layouts;
+            variants = u .variants;
+            number = u .number;
+            words = λ k a l z. absurd (no (sym z ∙ v .set .all .all each k a l));
+            faults = u .faults ∙ h .faults (namesOf (u .groups));
+            writes = record { long = y .0; bytes = y .1; places = y .2 };
+          }
+
+      pub step-fire : Stepped n s d d t t rows rows flags flags b x x′ w w′ r (nextAt r next n′ (r .set) ps′ q′)
+      step-fire =
+          record {
+            text = refl;
+            scratch = long;
+            buffer = fired-long (wanting (r .set) o′) ps′ x′ w′ q′ long f;
+            sound = λ z. fire-sound;
+            further = λ z. g .place .2;
+            means = λ w₀ q₀ p u. record { refused = λ z. absurd (z refl); on = λ z. fire-read w₀ q₀ p u; end = λ z y. absurd (no (sym y)) };
+          }
+
+  -- a line is refused
+  pub step-refused : (k l : ℕ) → Seeks (take (r .used) d) t rows flags (r .count) (r .set) s (r .at) (r .line) (sought.Refused k l) →
+      Stepped n s d d t t rows rows flags flags b x x w w r (stoppedAt r k l)
+  step-refused k l g =
+      record {
+        text = refl;
+        scratch = refl;
+        buffer = refl;
+        sound = λ z. absurd (no z);
+        further = λ z. absurd (no z);
+        means = λ w₀ q₀ p u.
+            record {
+              refused = λ z. record { some = z; first = rw (u .faults) (g .means p (u .groups) (u .ready) (rw (← u .layouts) (v .set)) (namesOf (u .groups))) };
+              on = λ z. absurd (no z);
+              end = λ z y. absurd (g .place z);
+            };
+      }
+
+  -- the end of the file
+  module _ (g : Seeks (take (r .used) d) t rows flags (r .count) (r .set) s (r .at) (r .line) sought.End) (x′ w′ : Text) (q′ : Cursors) (long : length x′ ≡ length x)
+      (f : KeptFired (profileAt (take (r .used) d) b n) (r .set) s (r .places) w w′ (r .cursors) q′) where
+    pub step-end : (i m : ℕ) → Stepped n s d d t t rows rows flags flags b x x′ w w′ r (ended (closedAt r i m q′))
+    step-end i m =
+        record {
+          text = refl;
+          scratch = long;
+          buffer = fired-long (r .set) (r .places) x′ w′ q′ long f;
+          sound = λ z. absurd (no z);
+          further = λ z. absurd (no z);
+          means = λ w₀ q₀ p u.
+              let h = g .means p (u .groups) (u .ready) (rw (← u .layouts) (v .set)) in
+              let y = fired-writes (r .set) (r .places) x′ w′ q′ long f w₀ q₀ p u (u .rules) [] (u .words)
+                  (h .1 (u .rules) ∙ owed-end (u .groups) (profileOf p) (r .set) (v .set .all) (u .rules)) in
+              record {
+                refused = λ z. absurd (z refl);
+                on = λ z. absurd (no z);
+                end = λ z c.
+                    record {
+                      faults = u .faults ∙ h .0 (namesOf (u .groups));
+                      bytes = sym (y .1 ∙ run-buf-nil w′ q′);
+                      places = sym (y .2 ∙ run-cur-nil q′);
+                    };
+              };
+        }
+
+  -- a heading: the set before it is over
+  module _ (i l from m : ℕ) (g : Seeks (take (r .used) d) t rows flags (r .count) (r .set) s (r .at) (r .line) (sought.Heading i l from m)) (x′ w′ : Text) (q′ : Cursors)
+      (long : length x′ ≡ length x) (f : KeptFired (profileAt (take (r .used) d) b n) (r .set) s (r .places) w w′ (r .cursors) q′) where
+    pub heading-sound : Sound n s d t rows flags b x′ w′ (closedAt r i l q′)
+    heading-sound = closed-sound x′ w′ q′ long f i l (omega (arith, g .place .1)) (g .place .2)
+
+    heading-read : (w₀ : Text) (q₀ : Cursors) (p : Texts) (u : ReadTo w₀ q₀ n s d t rows flags b w p r) → ReadTo w₀ q₀ n s d t rows flags b w′ p (closedAt r i l q′)
+    heading-read w₀ q₀ p u =
+        let h = g .means p (u .groups) (u .ready) (rw (← u .layouts) (v .set)) in
+        let c = heading-first s i l from m (g .place .1) (g .place .3) in
+        closed-read x′ w′ q′ long f i l w₀ q₀ p u (h .faults (namesOf (u .groups)))
+        (h .owes (u .rules) ∙ rw c (owed-close (u .groups) (profileOf p) (r .set) (v .set .all) (u .rules) l (left s from) (ahead s from m)))
+
+    pub step-heading : (d′ : Text) (t′ rows′ : List ℕ) (flags′ : List Bool) (r′ : Reading) → Stepped n s d d′ t t′ rows rows′ flags flags′ b x′ x′ w′ w′ (closedAt r i l q′) r′ →
+        Stepped n s d d′ t t′ rows rows′ flags flags′ b x x′ w w′ r r′
+    step-heading d′ t′ rows′ flags′ r′ a =
+        record {
+          text = a .text;
+          scratch = long;
+          buffer = closed-long x′ w′ q′ long f i l;
+          sound = a .sound;
+          further = λ z. omega (arith, a .further z, g .place .0);
+          means = λ w₀ q₀ p u. a .means w₀ q₀ p (heading-read w₀ q₀ p u);
+        }
