@@ -8,3 +8,5 @@ pub mod Opens
 pub mod HeadLines
 pub mod KeptTold
 pub mod Stepping
+pub mod SetHeads
+pub mod GroupHeads

@@ -6,3 +6,4 @@ pub mod Keeping
 pub mod Opening
 pub mod States
 pub mod Steps
+pub mod Heads
