@@ -10,3 +10,4 @@ pub mod KeptTold
 pub mod Stepping
 pub mod SetHeads
 pub mod GroupHeads
+pub mod Parts

@@ -1,5 +1,6 @@
 // One reading of a file: each line is judged, and where its set still wants a layout, matched and fired.
 
+pub mod file;
 pub mod heading;
 pub mod keep;
 pub mod left;
