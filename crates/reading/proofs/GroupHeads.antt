@@ -106,7 +106,7 @@ module _ (n : ℕ) (s : Text) (r : Reading) (x : FirstWord) (h : AtGroup s r x) 
 
   refused-as : (k : ℕ) (d′ : Text) (t′ rows′ : List ℕ) (flags′ : List Bool) → (k ≡ 0 → ⊥) → length d′ ≡ length d →
       ((gs : Groups) → ((p : Texts) → Ready p gs (take (r .used) d) t rows flags (r .count) → r .groups ≡ length gs →
-        firstRefusal (checkFrom (namesOf gs) (r .set .present) (follow s (r .at) (r .line))) ≡ record { number = k; place = r .line })) →
+      firstRefusal (checkFrom (namesOf gs) (r .set .present) (follow s (r .at) (r .line))) ≡ record { number = k; place = r .line })) →
       HeadRead n s d d′ t t′ rows rows′ flags flags′ r (stoppedAt r k (r .line))
   refused-as k d′ t′ rows′ flags′ z e f =
       record {

@@ -11,3 +11,4 @@ pub mod Stepping
 pub mod SetHeads
 pub mod GroupHeads
 pub mod Parts
+pub mod FileReads

@@ -124,8 +124,12 @@ module _ (h : SetHeading) (n : ℕ) (sized : SetSized h) (one : FromOne (h .inde
           present = e ∙ present-is h sized;
           owes = λ gs q c kept rs.
               let s : upFrom (r .count) (r .first) ≡ layoutsOf (layoutCount q) (headingBy h) = is ∙ ap (λ (i : ℕ). layoutsOf i (headingBy h)) (sym c) in
-              rw (v, each-same (owedAt (members gs) q (headingBy h) w kept rs) (λ k. setFires false (members gs) q (headingBy h) k rs) (r .count) (r .first)
-                (λ k a b. rw (u .inside k a b) refl), s)
+              rw (
+                v,
+                each-same (owedAt (members gs) q (headingBy h) w kept rs) (λ k. setFires false (members gs) q (headingBy h) k rs) (r .count) (r .first)
+                    (λ k a b. rw (u .inside k a b) refl),
+                s,
+              )
               (sym (head-is gs q (headingBy h) rs));
           kept = u .inside;
         }

@@ -225,7 +225,7 @@ module _ (d : Text) (t rows : List ℕ) (flags : List Bool) (count : ℕ) (o : O
                     short = rw behind-is (any-drop tooLong (o .set .left) (left s from) (line-short (o .present) m (left s from) (w .fault)));
                   },
                   wanted,
-                omega (arith, v .low, w .on),
+                  omega (arith, v .low, w .on),
                   w .high,
                   w .fewer,
                 );

@@ -86,10 +86,11 @@ module _ (n : ℕ) (s d : Text) (t rows : List ℕ) (flags : List Bool) (b : Lis
         owed (u .groups) (profileOf p) (r .set) (u .rules) (follow s (r .at) (r .line)) ≡ keptFires (profileOf p) o kept ++ rest →
         (length w′ ≡ length w₀) × (runBuf w₀ q₀ (fileFirings s (profileOf p)) ≡ runBuf w′ q′ rest) × (runCur q₀ (fileFirings s (profileOf p)) ≡ runCur q′ rest)
     fired-writes w₀ q₀ p u kept rest ws e =
-        let k = kept-told p (take (r .used) d) b n (u .values) (u .layouts) (v .fires .expands .few) (u .variants) o s ps kept ws w w′ (r .cursors) q′ f in
-        (fired-long ∙ u .writes .long,
-         u .writes .bytes ∙ (ap (runBuf w (r .cursors)) e ∙ rw (buf-append, ← k .0, ← k .1) refl),
-         u .writes .places ∙ (ap (runCur (r .cursors)) e ∙ rw (cur-append, ← k .1) refl))
+        let k = kept-told p (take (r .used) d) b n (u .values) (u .layouts) (v .fires .expands .few) (u .variants) o s ps kept ws w w′ (r .cursors) q′ f in (
+          fired-long ∙ u .writes .long,
+          u .writes .bytes ∙ (ap (runBuf w (r .cursors)) e ∙ rw (buf-append, ← k .0, ← k .1) refl),
+          u .writes .places ∙ (ap (runCur (r .cursors)) e ∙ rw (cur-append, ← k .1) refl),
+        )
 
   -- the set is over
   module _ (x′ w′ : Text) (q′ : Cursors) (long : length x′ ≡ length x) (f : KeptFired (profileAt (take (r .used) d) b n) (r .set) s (r .places) w w′ (r .cursors) q′) (i m : ℕ) where
@@ -161,13 +162,13 @@ module _ (n : ℕ) (s d : Text) (t rows : List ℕ) (flags : List Bool) (b : Lis
     words-kept w₀ q₀ p u k a l z =
         step-kept k z
         (λ q.
-          let y : getD ps′ k 0 ≡ place = e .at k a l ∙ rw q refl in
-          let c : cond (isIn k m) (found-for w₀ q₀ p u .rule) (u .rules k) ≡ found-for w₀ q₀ p u .rule = rw q refl in
-          ap (λ (i : ℕ). drop 1 (left s i)) y ∙ (found-for w₀ q₀ p u .words ∙ ap (λ (y : Rule). rightWords (headingBy (r .set .set)) (y .text)) (sym c)))
+        let y : getD ps′ k 0 ≡ place = e .at k a l ∙ rw q refl in
+        let c : cond (isIn k m) (found-for w₀ q₀ p u .rule) (u .rules k) ≡ found-for w₀ q₀ p u .rule = rw q refl in
+        ap (λ (i : ℕ). drop 1 (left s i)) y ∙ (found-for w₀ q₀ p u .words ∙ ap (λ (y : Rule). rightWords (headingBy (r .set .set)) (y .text)) (sym c)))
         (λ z q.
-          let y : getD ps′ k 0 ≡ getD (r .places) k 0 = e .at k a l ∙ rw q refl in
-          let c : cond (isIn k m) (found-for w₀ q₀ p u .rule) (u .rules k) ≡ u .rules k = rw q refl in
-          ap (λ (i : ℕ). drop 1 (left s i)) y ∙ (u .words k a l z ∙ ap (λ (y : Rule). rightWords (headingBy (r .set .set)) (y .text)) (sym c)))
+        let y : getD ps′ k 0 ≡ getD (r .places) k 0 = e .at k a l ∙ rw q refl in
+        let c : cond (isIn k m) (found-for w₀ q₀ p u .rule) (u .rules k) ≡ u .rules k = rw q refl in
+        ap (λ (i : ℕ). drop 1 (left s i)) y ∙ (u .words k a l z ∙ ap (λ (y : Rule). rightWords (headingBy (r .set .set)) (y .text)) (sym c)))
 
     -- it is kept
     module _ (once : r .set .every ≡ false) where
@@ -254,7 +255,7 @@ module _ (n : ℕ) (s d : Text) (t rows : List ℕ) (flags : List Bool) (b : Lis
       fire-read w₀ q₀ p u =
           let h = found-for w₀ q₀ p u in
           let y = fired-writes (wanting (r .set) o′) ps′ x′ w′ q′ long f w₀ q₀ p u (keeping m (h .rule) (u .rules))
-              (owed (u .groups) (profileOf p) (r .set) (u .rules) (follow s next n′)) (words-kept w₀ q₀ p u) (h .fires each (u .rules) o′ out) in
+          (owed (u .groups) (profileOf p) (r .set) (u .rules) (follow s next n′)) (words-kept w₀ q₀ p u) (h .fires each (u .rules) o′ out) in
           record {
             groups = u .groups;
             rules = u .rules;
@@ -311,7 +312,7 @@ module _ (n : ℕ) (s d : Text) (t rows : List ℕ) (flags : List Bool) (b : Lis
           means = λ w₀ q₀ p u.
               let h = g .means p (u .groups) (u .ready) (rw (← u .layouts) (v .set)) in
               let y = fired-writes (r .set) (r .places) x′ w′ q′ long f w₀ q₀ p u (u .rules) [] (u .words)
-                  (h .1 (u .rules) ∙ owed-end (u .groups) (profileOf p) (r .set) (v .set .all) (u .rules)) in
+              (h .1 (u .rules) ∙ owed-end (u .groups) (profileOf p) (r .set) (v .set .all) (u .rules)) in
               record {
                 refused = λ z. absurd (z refl);
                 on = λ z. absurd (no z);

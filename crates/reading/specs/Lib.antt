@@ -7,3 +7,4 @@ pub mod Opening
 pub mod States
 pub mod Steps
 pub mod Heads
+pub mod Files

@@ -18,7 +18,6 @@ use Rattle.reading.specs.Owed.{Kept, setOwes}
 use Rattle.reading.specs.Seeking.{SetOpen}
 use Rattle.reading.specs.Keeping.{mostPlaces}
 
-
 -- no layout: of a set that does not apply, or of none
 abbrev pub closedSet : Present → SetHeading → OpenSet
 closedSet p h = record { present = p; set = h; first = 0; count = 0; every = false; wanted = 0 }

@@ -1,10 +1,16 @@
 // A file read to its end, or to its first refused line.
 ghost use mathlib.Core.Path.{_≡_};
-ghost use Prim.Native.Nat.{_≤_};
+ghost use Prim.Native.Nat.{_≤_, _<_};
+ghost use lib.ListN.{length};
 ghost use Rattle.text.specs.Reading.{Within};
 ghost use Rattle.reading.specs.Owed.{wanting as wantingOf};
 ghost use Rattle.reading.specs.States.{Sound};
 ghost use Rattle.reading.specs.Steps.{Stepped};
+ghost use Rattle.output.specs.Store.{farthest};
+ghost use Rattle.firing.specs.Writing.{Low};
+ghost use Rattle.matching.specs.Held.{SetSized};
+ghost use Rattle.reading.specs.Files.{Started, NamesStart, FileReadOf};
+use super::FileRead;
 use super::OpenSet;
 use super::Reading;
 use super::Setting;
@@ -18,6 +24,13 @@ use super::states::end;
 use super::states::go_on;
 use super::states::stop;
 use bitsets::without;
+use firing::Cursors;
+use names::Held;
+use rules::Index;
+use rules::SetHeading;
+use rules::check::NO_HEADING;
+use text::reader::fence_of;
+use text::table::TABLE;
 
 // One step on: to the next rule that matches, which is kept or fired; over a heading, before which the kept rules of its set are fired; or to the end.
 fn read_on(
@@ -66,7 +79,18 @@ fn read_on(
             let wanted = without(set.wanted, layouts);
             let o = wanting(set, wanted);
             if set.every {
-                let q = fire_kept(s, t, z, o, kept, &text[0..used], bounds, scratch, buf, cursors);
+                let q = fire_kept(
+                    s,
+                    t,
+                    z,
+                    o,
+                    kept,
+                    &text[0..used],
+                    bounds,
+                    scratch,
+                    buf,
+                    cursors,
+                );
                 return go_on(r, next, after, set, kept, q);
             }
             go_on(r, next, after, o, kept, cursors)
@@ -128,4 +152,93 @@ fn wanting(o: OpenSet, wanted: u64) -> OpenSet
     let mut next = o;
     next.wanted = wanted;
     next
+}
+
+// Stands for the heading where there is no set.
+fn no_set() -> SetHeading
+    ensures { λ r. ⌜ SetSized r ⌝ }
+{
+    SetHeading {
+        good: false,
+        left: 1,
+        columns: [1; 5],
+        index: Index::Absent,
+        right: 1,
+        components: [0; 5],
+    }
+}
+
+// Before the first line.
+fn at_start(held: Held, cursors: Cursors) -> Reading
+    ensures { λ r. ⌜ Started held cursors r ⌝ }
+{
+    let heading = no_set();
+    let set = OpenSet {
+        present: NO_HEADING,
+        set: heading,
+        first: 0,
+        count: 0,
+        every: false,
+        wanted: 0,
+    };
+    let places: [usize; 33] = [0; 33];
+    Reading {
+        at: 0,
+        line: 1,
+        used: held.used,
+        count: held.count,
+        groups: 0,
+        set,
+        places,
+        cursors,
+        fault: 0,
+        more: true,
+    }
+}
+
+// A file read for a profile that is compiled into the names: its first refused line, or number 0 and all that fires written from the cursors on.
+pub fn read_file(
+    s: &[u8],
+    n: usize,
+    held: Held,
+    text: &mut [u8],
+    table: &mut [usize; 1024],
+    rows: &mut [u64; 512],
+    flags: &mut [bool; 256],
+    bounds: &[usize; 130],
+    buf: &mut [u8],
+    q: Cursors,
+) -> FileRead
+    requires { ⌜ (1 ≤ n) × (n < 10) × NamesStart (now text) (now table) (now rows) (now flags) (now bounds) held × (length (now buf) ≤ farthest) × Low (q .at) ⌝ }
+    ensures { λ r. ⌜ FileReadOf n (now (s .entry)) held (now (text .entry)) (now (table .entry)) (now (rows .entry)) (now (flags .entry)) (now (bounds .entry))
+        (now (buf .entry)) (now (buf .exit)) q r ⌝ }
+{
+    let t = TABLE;
+    let z = Setting {
+        fence: fence_of(s),
+        n,
+    };
+    let mut scratch: [u8; 8192] = [0; 8192];
+    let mut r = at_start(held, q);
+    while r.more {
+        r = read_on(
+            s,
+            &t,
+            z,
+            r,
+            text,
+            table,
+            rows,
+            flags,
+            bounds,
+            &mut scratch,
+            buf,
+        );
+    }
+    let cursors = r.cursors;
+    FileRead {
+        number: r.fault,
+        place: r.line,
+        cursors,
+    }
 }

@@ -22,14 +22,7 @@ use names::define::define_group;
 use rules::check::NO_HEADING;
 
 // The heading of a set, whose words begin at `from`.
-fn read_set(
-    s: &[u8],
-    t: &[u8; 512],
-    z: Setting,
-    r: Reading,
-    from: usize,
-    number: usize,
-) -> Reading
+fn read_set(s: &[u8], t: &[u8; 512], z: Setting, r: Reading, from: usize, number: usize) -> Reading
     requires { ⌜ Within (now s) (now t) (z .fence) from number × AtHeading (now s) r from number × (1 ≤ z .n) × (z .n ≤ 32)
         × (hasDollar (getD (left (now s) from) 0 []) ≡ false) ⌝ }
     ensures { λ a. ⌜ SetRead (z .n) (now (s .entry)) r a ⌝ }

@@ -72,3 +72,10 @@ pub struct Reading {
     pub fault: usize,
     pub more: bool,
 }
+
+// A file read: the number and the line of its first refusal, or number 0, and what is written.
+pub struct FileRead {
+    pub number: usize,
+    pub place: usize,
+    pub cursors: Cursors,
+}

@@ -34,7 +34,7 @@ part-seek-rule-end c = search needs
 
 -- src/file.rt:45:9
 seek-rule-requires : tie.Need-seek-rule-requires
-seek-rule-requires c κs = 
+seek-rule-requires c κs =
     let p = c .before .before .before .before .before .before .before .before .before .before .before .before .pre in
     let v = p .3 in
     (record { high = v .high; few = v .few; table = p .0 .table; fenced = p .0 .fenced }, named-whole (c .before .before .before .before .before .before .before .before .before .before .before .before .args .r .used) (c .before .before .before .before .before .before .before .before .before .before .before .before .args .text .now) _ _ (v .tables .named), v .set .sized, v .set .left, v .set .right, v .set .heading)
@@ -69,7 +69,7 @@ part-fire-kept-end c = omega (arith, c .before .before .before .before .before .
 
 -- src/file.rt:69:21
 fire-kept-requires : tie.Need-fire-kept-requires
-fire-kept-requires c κs = 
+fire-kept-requires c κs =
     let p = c .before .before .before .before .before .before .before .before .before .before .before .before .before .before .before .before .before .before .before .before .before .before .before .before .pre in
     (p .0, sized-as _ _ (c .before .before .before .before .before .wanting .ensures) (p .3 .set .sized), places-as _ _ _ _ (c .before .before .before .before .before .wanting .ensures) (kept-places _ _ _ _ _ _ _ _ _ _ (c .before .before .before .before .before .before .before .before .before .before .before .before .before .before .before .before .before .before .before .before .before .before .before .before .pre .3) _ _ _ _ (sought-as (c .before .before .before .before .before .before .before .before .before .before .before .before .before .before .before .before .before .before .before .before .before .before .before .before .args .r .used) (c .before .before .before .before .before .before .before .before .before .before .before .before .before .before .before .before .before .before .before .before .before .before .before .before .args .text .now) _ _ _ _ _ _ _ _ _ _ (c .before .before .before .before .before .before .before .before .before .x .given .1) (c .before .before .before .before .before .before .before .before .before .before .before .seek-rule .ensures)) _ (c .before .before .before .before .before .before .before .keep-rule .ensures) _ (c .before .before .before .before .before .before .without .ensures)), fires-as (c .before .before .before .before .before .before .before .before .before .before .before .before .before .before .before .before .before .before .before .before .before .before .before .before .args .r .used) (c .before .before .before .before .before .before .before .before .before .before .before .before .before .before .before .before .before .before .before .before .before .before .before .before .args .text .now) _ _ _ _ _ _ (p .3 .fires))
 
@@ -91,7 +91,7 @@ same-length-3 c = search needs
 
 -- src/file.rt:70:17
 returns : tie.Need-returns
-returns c = 
+returns c =
     let p = c .before .before .before .before .before .before .before .before .before .before .before .before .before .before .before .before .before .before .before .before .before .before .before .before .before .before .before .before .before .before .pre in
     let f = fired-as (c .before .before .before .before .before .before .before .before .before .before .before .before .before .before .before .before .before .before .before .before .before .before .before .before .before .before .before .before .before .before .args .r .used) (c .before .before .before .before .before .before .before .before .before .before .before .before .before .before .before .before .before .before .before .before .before .before .before .before .before .before .before .before .before .before .args .text .now) _ _ _ _ _ _ _ _ _ _ (c .before .before .before .before .before .before .before .before .before .before .before .wanting .ensures) (c .before .before .before .before .before .fire-kept .ensures .0) in
     rw (c .go-on .ensures)
@@ -119,7 +119,7 @@ part-fire-kept-end-2 c = search needs
 
 -- src/file.rt:80:17
 fire-kept-requires-2 : tie.Need-fire-kept-requires-2
-fire-kept-requires-2 c κs = 
+fire-kept-requires-2 c κs =
     let p = c .before .before .before .before .before .before .before .before .before .before .before .before .before .before .before .before .before .before .before .before .pre in
     (p .0, p .3 .set .sized, p .3 .kept, fires-as (c .before .before .before .before .before .before .before .before .before .before .before .before .before .before .before .before .before .before .before .before .args .r .used) (c .before .before .before .before .before .before .before .before .before .before .before .before .before .before .before .before .before .before .before .before .args .text .now) _ _ _ _ _ _ (p .3 .fires))
 
@@ -129,12 +129,16 @@ close-requires c κs = search needs
 
 -- src/file.rt:92:13
 read-heading-requires : tie.Need-read-heading-requires
-read-heading-requires c κs = 
+read-heading-requires c κs =
     let p = c .before .before .before .before .before .before .before .before .before .before .before .before .before .before .before .before .before .before .before .before .before .before .before .before .before .before .before .before .before .before .pre in
     let g = sought-as (c .before .before .before .before .before .before .before .before .before .before .before .before .before .before .before .before .before .before .before .before .before .before .before .before .before .before .before .before .before .before .args .r .used) (c .before .before .before .before .before .before .before .before .before .before .before .before .before .before .before .before .before .before .before .before .before .before .before .before .before .before .before .before .before .before .args .text .now) _ _ _ _ _ _ _ _ _ _ (c .before .before .before .before .before .before .before .before .before .before .before .before .before .before .before .x2 .given .1) (c .before .before .before .before .before .before .before .before .before .before .before .before .before .before .before .before .before .seek-rule .ensures) in
-    let e = c .before .before .before .before .close .ensures in
-    (record { high = g .place .3 .high; few = g .place .3 .few; table = p .0 .table; fenced = p .0 .fenced }, heading-at _ (c .before .before .before .before .before .before .before .before .before .before .before .before .before .before .before .before .before .before .before .before .before .before .before .before .before .before .before .before .before .before .args .r) _ _ _ _ _ _ e (g .place .1) (g .place .3), p .1, p .2,
-     held-at _ _ _ _ _ _ _ _ _ _ _ _ _ _ (p .3) e)
+    let e = c .before .before .before .before .close .ensures in (
+      record { high = g .place .3 .high; few = g .place .3 .few; table = p .0 .table; fenced = p .0 .fenced },
+      heading-at _ (c .before .before .before .before .before .before .before .before .before .before .before .before .before .before .before .before .before .before .before .before .before .before .before .before .before .before .before .before .before .before .args .r) _ _ _ _ _ _ e (g .place .1) (g .place .3),
+      p .1,
+      p .2,
+      held-at _ _ _ _ _ _ _ _ _ _ _ _ _ _ (p .3) e,
+    )
 
 -- src/file.rt:105:27
 enum-known-x-3 : tie.Need-enum-known-x-3
@@ -162,7 +166,7 @@ part-fire-kept-end-3 c = search needs
 
 -- src/file.rt:107:17
 fire-kept-requires-3 : tie.Need-fire-kept-requires-3
-fire-kept-requires-3 c κs = 
+fire-kept-requires-3 c κs =
     let p = c .before .before .before .before .before .before .before .before .before .before .before .before .before .before .before .before .before .before .before .pre in
     (p .0, p .3 .set .sized, p .3 .kept, fires-as (c .before .before .before .before .before .before .before .before .before .before .before .before .before .before .before .before .before .before .before .args .r .used) (c .before .before .before .before .before .before .before .before .before .before .before .before .before .before .before .before .before .before .before .args .text .now) _ _ _ _ _ _ (p .3 .fires))
 
@@ -180,7 +184,7 @@ same-length-4 c = search needs
 
 -- src/file.rt:23:1
 returns-2 : tie.Need-returns-2
-returns-2 c = 
+returns-2 c =
     let p = c .before .before .before .before .before .before .before .before .before .before .before .before .before .before .before .before .before .before .before .before .before .pre in
     rw (c .go-on2 .ensures, c .before .before .wanting .ensures)
     (step-keep _ _ _ _ _ _ _ _ _ _ (p .3) _ _ _ _ (sought-as (c .before .before .before .before .before .before .before .before .before .before .before .before .before .before .before .before .before .before .before .before .before .args .r .used) (c .before .before .before .before .before .before .before .before .before .before .before .before .before .before .before .before .before .before .before .before .before .args .text .now) _ _ _ _ _ _ _ _ _ _ (c .before .before .before .before .before .before .x .given .1) (c .before .before .before .before .before .before .before .before .seek-rule .ensures)) _ (c .before .before .before .before .keep-rule .ensures) _ (c .before .before .before .without .ensures) (c .before .if1 .left))
@@ -199,7 +203,7 @@ same-length-7 c = search needs
 
 -- src/file.rt:23:1
 returns-3 : tie.Need-returns-3
-returns-3 c = 
+returns-3 c =
     let p = c .before .before .before .before .before .before .before .before .before .before .before .before .before .before .before .before .before .before .before .before .before .before .before .before .before .before .before .before .before .before .before .before .before .pre in
     let g = sought-as (c .before .before .before .before .before .before .before .before .before .before .before .before .before .before .before .before .before .before .before .before .before .before .before .before .before .before .before .before .before .before .before .before .before .args .r .used) (c .before .before .before .before .before .before .before .before .before .before .before .before .before .before .before .before .before .before .before .before .before .before .before .before .before .before .before .before .before .before .before .before .before .args .text .now) _ _ _ _ _ _ _ _ _ _ (c .before .before .before .before .before .before .before .before .before .before .before .before .before .before .before .before .before .before .x2 .given .1) (c .before .before .before .before .before .before .before .before .before .before .before .before .before .before .before .before .before .before .before .before .seek-rule .ensures) in
     let f = fired-as (c .before .before .before .before .before .before .before .before .before .before .before .before .before .before .before .before .before .before .before .before .before .before .before .before .before .before .before .before .before .before .before .before .before .args .r .used) (c .before .before .before .before .before .before .before .before .before .before .before .before .before .before .before .before .before .before .before .before .before .before .before .before .before .before .before .before .before .before .before .before .before .args .text .now) _ _ _ _ _ _ _ _ _ _ refl (c .before .before .before .before .before .before .before .before .before .before .before .before .fire-kept2 .ensures .0) in
@@ -230,7 +234,7 @@ same-length-11 c = search needs
 
 -- src/file.rt:23:1
 returns-5 : tie.Need-returns-5
-returns-5 c = 
+returns-5 c =
     let p = c .before .before .before .before .before .before .before .before .before .before .before .before .before .before .before .before .before .before .before .before .before .before .before .before .before .before .pre in
     let f = fired-as (c .before .before .before .before .before .before .before .before .before .before .before .before .before .before .before .before .before .before .before .before .before .before .before .before .before .before .args .r .used) (c .before .before .before .before .before .before .before .before .before .before .before .before .before .before .before .before .before .before .before .before .before .before .before .before .before .before .args .text .now) _ _ _ _ _ _ _ _ _ _ refl (c .before .before .before .before .before .before .fire-kept3 .ensures .0) in
     rw (c .end .ensures, c .before .close2 .ensures)

@@ -68,7 +68,7 @@ part-define-group-end c = search needs
 -- src/heading.rt:117:9
 define-group-requires : tie.Need-define-group-requires
 unfolding part
-define-group-requires c κs = 
+define-group-requires c κs =
     let p = c .before .before .before .before .before .before .before .before .before .before .before .before .before .before .before .before .before .before .pre in
     let l = name-short 0 _ _ _ (c .before .before .before .before .before .before .before .before .before .before .before .before .before .before .before .before .before .before .pre .3) (c .before .before .before .before .before .before .before .before .before .before .before .before .before .before .before .before .before .before .pre .2) _ _ _ _ _ (c .before .before .before .before .before .before .before .before .before .before .group-line .ensures) (c .before .before .before .before .before .before .before .before .if1 .left) in
     (p .4 .used, omega (arith, l, p .4 .room, c .before .before .before .before .before .before .if2 .left), p .2 .yes, p .4 .tables, p .4 .names)

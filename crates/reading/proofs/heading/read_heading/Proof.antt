@@ -16,7 +16,7 @@ first-word-requires c κs = search needs
 
 -- src/heading.rt:154:9
 read-group-requires : tie.Need-read-group-requires
-read-group-requires c κs = 
+read-group-requires c κs =
     let p = c .before .before .before .before .before .before .before .before .pre in
     let w = c .before .before .before .before .before .first-word .ensures in
     (p .0 .table, p .0 .fenced, dollar-word _ _ _ _ w (c .before .before .before .before .if1 .taken), at-group _ _ _ _ _ (p .1) w (c .before .before .before .before .if1 .taken), p .4)
@@ -31,7 +31,7 @@ returns c = search needs
 
 -- src/heading.rt:156:5
 read-set-requires : tie.Need-read-set-requires
-read-set-requires c κs = 
+read-set-requires c κs =
     let p = c .before .before .before .before .pre in
     (p .0, p .1, p .2, p .3, c .before .first-word .ensures .no (c .if1 .left))
 

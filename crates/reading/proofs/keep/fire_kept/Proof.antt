@@ -55,14 +55,15 @@ array-read-fire-line c = search needs
 
 -- src/keep.rt:70:9
 fire-line-requires : tie.Need-fire-line-requires Inv-loop μ-loop
-fire-line-requires c κs = 
+fire-line-requires c κs =
     let p = c .before .before .before .before .before .before .before .before .before .before .before .before .before .pre in
     let v = c .before .before .before .before .before .before .loop .inv in
     let e = sym (c .before .before .before .contains .ensures) ∙ c .before .before .if2 .left in
-    let w = p .2 .place _ (v .0 .low) (c .before .before .before .before .if1 .taken) e in
-    (record { high = w .high; few = omega arith; table = p .0 .table; fenced = p .0 .fenced },
-     place-words _ _ _ (p .1) w,
-     fires-on _ _ _ _ _ _ _ _ _ _ _ (p .3) (omega (arith, p .2 .range, c .before .before .before .before .if1 .taken)) (v .1) (v .0 .going (λ k. k) .long) (v .0 .going (λ k. k) .low))
+    let w = p .2 .place _ (v .0 .low) (c .before .before .before .before .if1 .taken) e in (
+      record { high = w .high; few = omega arith; table = p .0 .table; fenced = p .0 .fenced },
+      place-words _ _ _ (p .1) w,
+      fires-on _ _ _ _ _ _ _ _ _ _ _ (p .3) (omega (arith, p .2 .range, c .before .before .before .before .if1 .taken)) (v .1) (v .0 .going (λ k. k) .long) (v .0 .going (λ k. k) .low),
+    )
 
 -- src/keep.rt:83:9
 add-k-2 : tie.Need-add-k-2 Inv-loop μ-loop
@@ -74,7 +75,7 @@ loop-less-2 c = search needs
 
 -- src/keep.rt:59:5
 loop-again-2 : tie.Need-loop-again-2 Inv-loop μ-loop
-loop-again-2 c = 
+loop-again-2 c =
     let p = c .before .before .before .before .before .before .before .before .before .before .before .before .before .before .before .before .before .before .pre in
     let v = c .before .before .before .before .before .before .before .before .before .before .before .loop .inv in
     let e = sym (c .before .before .before .before .before .before .before .before .contains .ensures) ∙ c .before .before .before .before .before .before .before .if2 .left in
