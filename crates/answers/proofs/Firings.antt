@@ -1,6 +1,6 @@
 -- Firings of appended and of shifted sections, beside groups that are not named; and that every fired value has a byte.
 use Prim.Native.Nat.{ℕ, _+_}
-use mathlib.Core.Path.{_≡_, refl, sym, ap, fun-ext}
+use mathlib.Core.Path.{_≡_, refl, sym, ap, fun-ext, _∙_}
 use mathlib.Core.List.{List, [], _∷_, _++_, map, append-assoc}
 use mathlib.Core.Bool.{Bool, true, false, not, _||_, cond}
 use lib.ListN.{length, take}
@@ -20,7 +20,7 @@ use Rattle.rules.proofs.Fresh.{freshWord, freshHead, fresh, with-beside}
 use Rattle.values.specs.Spread.{expanded}
 use Rattle.answers.specs.Matching.{members, wordMatches, valueMatches, columnMatches, ruleMatches, isOptions}
 use Rattle.answers.specs.Layouts.{layoutsOf}
-use Rattle.answers.specs.Firings.{Firing, fired, ruleFires, setFires, headFires, firings, fileFirings}
+use Rattle.answers.specs.Firings.{Firing, fired, ruleFires, setFires, ruleByRule, headFires, firings, fileFirings}
 use Rattle.answers.specs.Components.{valuesOf}
 use Rattle.answers.proofs.Updates.{nonEmpty}
 
@@ -60,6 +60,25 @@ set-fires-shift every look p h j k [] = refl
 set-fires-shift every look p h j k (r ∷ rs) =
     rw (rule-fires-shift p j (r .number) k (h .components) (rightWords h (r .text)), set-fires-shift every look p h j k rs)
     (map-arms (shiftFiring j) (ruleMatches look p k (h .columns) (r .text)) every (ruleFires p (r .number) k (h .components) (rightWords h (r .text))) (setFires every look p h k rs))
+
+pick-shift : (j : ℕ) (t : Bool) (a : List Firing) → cond t (map (shiftFiring j) a) [] ≡ map (shiftFiring j) (cond t a [])
+pick-shift j true a = refl
+pick-shift j false a = refl
+
+pub by-rule-shift : (look : Text → Words) (p : Profile) (h : Heading) (ks : List ℕ) (j : ℕ) (rs : List Rule) →
+    ruleByRule look p h ks (map (shiftRule j) rs) ≡ map (shiftFiring j) (ruleByRule look p h ks rs)
+unfolding ruleByRule shiftRule
+by-rule-shift look p h ks j [] = refl
+by-rule-shift look p h ks j (r ∷ rs) =
+    rw (
+      map-concat (shiftFiring j) (λ k. cond (ruleMatches look p k (h .columns) (r .text)) (ruleFires p (r .number) k (h .components) (rightWords h (r .text))) [])
+          (λ k. cond (ruleMatches look p k (h .columns) (r .text)) (ruleFires p (r .number + j) k (h .components) (rightWords h (r .text))) []) ks
+          (λ k. rw (rule-fires-shift p j (r .number) k (h .components) (rightWords h (r .text)))
+          (pick-shift j (ruleMatches look p k (h .columns) (r .text)) (ruleFires p (r .number) k (h .components) (rightWords h (r .text))))),
+      by-rule-shift look p h ks j rs,
+    )
+    (sym (map-append (shiftFiring j) (concatMap (λ k. cond (ruleMatches look p k (h .columns) (r .text)) (ruleFires p (r .number) k (h .components) (rightWords h (r .text))) []) ks)
+    (ruleByRule look p h ks rs)))
 
 head-fires-shift : (gs : Groups) (p : Profile) (k : ℕ) (h : Head) (rs : List Rule) →
     headFires gs p h (map (shiftRule k) rs) ≡ map (shiftFiring k) (headFires gs p h rs)
@@ -130,6 +149,16 @@ set-beside every gs g p h k (r ∷ rs) f =
     let b = and-both (allOf (freshWord g) (leftWords h (r .text))) (allOf (λ r. allOf (freshWord g) (leftWords h (r .text))) rs) f in
     rw (rule-beside gs g p k (h .columns) (r .text) (b .0), set-beside every gs g p h k rs (b .1))
 
+pub by-rule-beside : (gs g : Groups) (p : Profile) (h : Heading) (ks : List ℕ) (rs : List Rule) →
+    allOf (λ r. allOf (freshWord g) (leftWords h (r .text))) rs ≡ true → ruleByRule (members (gs ++ g)) p h ks rs ≡ ruleByRule (members gs) p h ks rs
+unfolding ruleByRule allOf leftWords
+by-rule-beside gs g p h ks [] f = refl
+by-rule-beside gs g p h ks (r ∷ rs) f =
+    let b = and-both (allOf (freshWord g) (leftWords h (r .text))) (allOf (λ r. allOf (freshWord g) (leftWords h (r .text))) rs) f in
+    ap (λ (m : ℕ → Bool). concatMap (λ k. cond (m k) (ruleFires p (r .number) k (h .components) (rightWords h (r .text))) []) ks ++ ruleByRule (members (gs ++ g)) p h ks rs)
+    (fun-ext (λ k. rule-beside gs g p k (h .columns) (r .text) (b .0)))
+    ∙ rw (by-rule-beside gs g p h ks rs (b .1)) refl
+
 head-fires-beside : (gs g : Groups) (p : Profile) (h : Head) (rs : List Rule) → freshHead g h rs ≡ true → headFires (gs ++ g) p h rs ≡ headFires gs p h rs
 unfolding headFires freshHead
 head-fires-beside gs g p (bad k) rs f = refl
@@ -171,6 +200,15 @@ set-full every look p h k (r ∷ rs) =
     all-cond full (ruleMatches look p k (h .columns) (r .text)) (now ++ more) (setFires every look p h k rs)
     (all-append full now more (rule-full p (r .number) k (h .components) (rightWords h (r .text))) (all-cond full every (setFires every look p h k rs) [] m refl))
     m
+
+pub by-rule-full : (look : Text → Words) (p : Profile) (h : Heading) (ks : List ℕ) (rs : List Rule) → allOf full (ruleByRule look p h ks rs) ≡ true
+unfolding ruleByRule allOf
+by-rule-full look p h ks [] = refl
+by-rule-full look p h ks (r ∷ rs) =
+    all-append full (concatMap (λ k. cond (ruleMatches look p k (h .columns) (r .text)) (ruleFires p (r .number) k (h .components) (rightWords h (r .text))) []) ks)
+    (ruleByRule look p h ks rs)
+    (all-concat full _ ks (λ k. all-cond full (ruleMatches look p k (h .columns) (r .text)) _ [] (rule-full p (r .number) k (h .components) (rightWords h (r .text))) refl))
+    (by-rule-full look p h ks rs)
 
 head-full : (gs : Groups) (p : Profile) (h : Head) (rs : List Rule) → allOf full (headFires gs p h rs) ≡ true
 unfolding headFires allOf
