@@ -6,7 +6,7 @@ use mathlib.Core.List.{List, [], _∷_, _++_, map}
 use mathlib.Core.Bool.{Bool, true, false, not, _||_, cond}
 use lib.ListN.{length, take, drop, getD, replicate, length-map}
 use lib.Dec.{ltb}
-use borrow.Author.Tests.{lt-ltb, le-ltb}
+use borrow.Author.Tests.{lt-ltb, le-ltb, ltb-true, ltb-false}
 use Rattle.text.specs.declared.Refusal.{Refusal}
 use Rattle.text.specs.Bytes.{Text, part, empty}
 use Rattle.text.specs.Refusals.{refusedIf, firstRefusal}
@@ -168,3 +168,63 @@ module _ (s : Text) (c : CardRead) (e : c ≡ readOf (judged s)) where
         let v = good h in
         let z = read-whole (length d) s (v .clear) (omega (arith, v .size)) in
         record { result = v .read ∙ rw z; buffer = g ∙ rw z }
+
+-- a reading as its answer says
+module _ (s d d′ : Text) (r : CardRead) (v : Reads s d d′ r) where
+  pub record Taken : Type 0 where
+    pub answer : readAnswer (length d) s ≡ accepted (textsOn s)
+    pub lengths : r .lengths ≡ map length (textsOn s)
+    pub texts : d′ ≡ bufferAfter d (accepted (textsOn s))
+
+  taken-when : (b : Bool) → broken sectionCount s || beyond (textsOn s) ≡ b → (k : Bool) → ltb (length d) (total (textsOn s)) ≡ k → r .number ≡ 0 → Taken
+  unfolding readOf numberOf cardLengths
+  taken-when true z k y h =
+      let g : r ≡ readOf (refused bad) = v .result ∙ ap readOf (read-bad (length d) s z) in
+      let n : r .number ≡ 16 = ap (λ (q : CardRead). q .number) g in
+      absurd (omega arith)
+  taken-when false z true y h =
+      let g : r ≡ readOf (refused short) = v .result ∙ ap readOf (read-short (length d) s z (ltb-true _ _ y)) in
+      let n : r .number ≡ 11 = ap (λ (q : CardRead). q .number) g in
+      absurd (omega arith)
+  taken-when false z false y h =
+      let a = read-whole (length d) s z (ltb-false _ _ y) in
+      let g : r ≡ readOf (accepted (textsOn s)) = v .result ∙ ap readOf a in
+      record { answer = a; lengths = ap (λ (q : CardRead). q .lengths) g; texts = v .buffer ∙ ap (bufferAfter d) a }
+
+  -- number 0: the texts are read
+  pub taken : r .number ≡ 0 → Taken
+  taken h = taken-when (broken sectionCount s || beyond (textsOn s)) refl (ltb (length d) (total (textsOn s))) refl h
+
+  pub record Untouched : Type 0 where
+    pub most : r .number ≤ 16
+    pub answer : readAnswer (length d) s ≡ refused (record { number = r .number; place = 0 })
+    pub texts : d′ ≡ d
+
+  untouched-when : (p : Refusal) → readAnswer (length d) s ≡ refused p → p .number ≤ 16 → p .place ≡ 0 → Untouched
+  unfolding readOf numberOf bufferAfter
+  untouched-when p e k m =
+      let g : r ≡ readOf (refused p) = v .result ∙ ap readOf e in
+      let n : r .number ≡ p .number = ap (λ (q : CardRead). q .number) g in
+      let f : p ≡ record { number = r .number; place = 0 } = λ i. record { number = sym n i; place = m i } in
+      record { most = omega arith; answer = e ∙ ap refused f; texts = v .buffer ∙ ap (bufferAfter d) e }
+
+  untouched-by : (b : Bool) → broken sectionCount s || beyond (textsOn s) ≡ b → (k : Bool) → ltb (length d) (total (textsOn s)) ≡ k → (r .number ≡ 0 → ⊥) → Untouched
+  unfolding readOf numberOf
+  untouched-by true z k y h = untouched-when bad (read-bad (length d) s z) (omega arith) refl
+  untouched-by false z true y h = untouched-when short (read-short (length d) s z (ltb-true _ _ y)) (omega arith) refl
+  untouched-by false z false y h =
+      let g : r ≡ readOf (accepted (textsOn s)) = v .result ∙ ap readOf (read-whole (length d) s z (ltb-false _ _ y)) in
+      absurd (h (ap (λ (q : CardRead). q .number) g))
+
+  -- any other number: the buffer is as it was
+  pub untouched : (r .number ≡ 0 → ⊥) → Untouched
+  untouched h = untouched-by (broken sectionCount s || beyond (textsOn s)) refl (ltb (length d) (total (textsOn s))) refl h
+
+-- a card by itself, as it is judged
+module _ (s : Text) (c : CardRead) (e : c ≡ readOf (judged s)) where
+  pub judged-clear : c .number ≡ 0 → cardRefusals s ≡ []
+  unfolding cardRefusals refusedIf
+  judged-clear h = rw (good s c e h .clear)
+
+  pub judged-refused : (c .number ≡ 0 → ⊥) → (room : ℕ) → readAnswer room s ≡ refused bad
+  judged-refused h room = read-bad room s (not-good s c e (broken sectionCount s || beyond (textsOn s)) refl h)

@@ -16,7 +16,7 @@ use Rattle.text.proofs.Numbers.{clear-if}
 use Rattle.profile.specs.Profile.{Texts, fields}
 use Rattle.profile.specs.Refusals.{outside, longField, badText, textRefusals, countRefusals, profileRefusals}
 use Rattle.profile.proofs.Numbers.{profile-numbers}
-use Rattle.answers.specs.Answer.{sum, total, textsIn}
+use Rattle.answers.specs.Answer.{sum, total, textsIn, refused, firstOf}
 use Rattle.card.specs.Card.{longestSection}
 use Rattle.card.specs.Writing.{longSection}
 
@@ -68,32 +68,50 @@ limited t h =
       options = short-text (t .options) _ (clear-if o 1 4 (nil-right (refusedIf v 1 3) _ c));
     }
 
--- its refusals have numbers to 2 and places to 4
-low : Refusal → Bool
-low r = leb (r .number) 2 && leb (r .place) 4
+-- a card's refusals have numbers from 1 to 16 and places to 4
+pub numbered : Refusal → Bool
+numbered r = leb 1 (r .number) && (leb (r .number) 16 && leb (r .place) 4)
 
-if-low : (t : Bool) (n p : ℕ) → leb n 2 && leb p 4 ≡ true → allOf low (refusedIf t n p) ≡ true
-unfolding refusedIf allOf low
-if-low true n p h = rw h
-if-low false n p h = refl
+pub if-numbered : (t : Bool) (n p : ℕ) → leb 1 n && (leb n 16 && leb p 4) ≡ true → allOf numbered (refusedIf t n p) ≡ true
+unfolding refusedIf allOf numbered
+if-numbered true n p h = rw h
+if-numbered false n p h = refl
 
-profile-low : (t : Texts) → allOf low (profileRefusals t) ≡ true
+pub profile-numbered : (t : Texts) → allOf numbered (profileRefusals t) ≡ true
 unfolding profileRefusals textRefusals countRefusals
-profile-low t =
-    all-append low (textRefusals t) (countRefusals t)
-    (all-append low (refusedIf _ 1 1) _ (if-low _ 1 1 refl)
-    (all-append low (refusedIf _ 1 2) _ (if-low _ 1 2 refl) (all-append low (refusedIf _ 1 3) _ (if-low _ 1 3 refl) (if-low _ 1 4 refl))))
-    (all-append low (refusedIf _ 2 2) _ (if-low _ 2 2 refl) (all-append low (refusedIf _ 2 3) _ (if-low _ 2 3 refl) (if-low _ 2 4 refl)))
+profile-numbered t =
+    all-append numbered (textRefusals t) (countRefusals t)
+    (all-append numbered (refusedIf _ 1 1) _ (if-numbered _ 1 1 refl)
+    (all-append numbered (refusedIf _ 1 2) _ (if-numbered _ 1 2 refl)
+    (all-append numbered (refusedIf _ 1 3) _ (if-numbered _ 1 3 refl) (if-numbered _ 1 4 refl))))
+    (all-append numbered (refusedIf _ 2 2) _ (if-numbered _ 2 2 refl) (all-append numbered (refusedIf _ 2 3) _ (if-numbered _ 2 3 refl) (if-numbered _ 2 4 refl)))
 
-first-low : (rs : List Refusal) → allOf low rs ≡ true → (firstRefusal rs .number ≤ 2) × (firstRefusal rs .place ≤ 4)
-unfolding allOf low firstRefusal
+pub record Numbered (r : Refusal) : Type 0 where
+  pub least : 1 ≤ r .number
+  pub most : r .number ≤ 16
+  pub place : r .place ≤ 4
+
+is-numbered : (r : Refusal) → numbered r ≡ true → Numbered r
+unfolding numbered
+is-numbered r h =
+    let w = and-both (leb 1 (r .number)) _ h in
+    let v = and-both (leb (r .number) 16) (leb (r .place) 4) (w .1) in
+    record { least = leb-true 1 (r .number) (w .0); most = leb-true (r .number) 16 (v .0); place = leb-true (r .place) 4 (v .1) }
+
+pub first-numbered : (rs : List Refusal) (ts : List Text) (p : Refusal) → allOf numbered rs ≡ true → firstOf rs ts ≡ refused p → Numbered p
+unfolding allOf firstOf
+first-numbered [] ts p h e = absurd (let z : _≡_ {A = ℕ} 0 1 = cc in omega arith)
+first-numbered (r ∷ rs) ts p h e =
+    let q : r ≡ p = cc in
+    is-numbered p (rw (← q) (and-both (numbered r) (allOf numbered rs) h .0))
+
+first-low : (rs : List Refusal) → allOf numbered rs ≡ true → (firstRefusal rs .number ≤ 16) × (firstRefusal rs .place ≤ 4)
+unfolding allOf firstRefusal
 first-low [] h = (omega arith, omega arith)
-first-low (r ∷ rs) h =
-    let w = and-both (leb (r .number) 2) (leb (r .place) 4) (and-both (low r) (allOf low rs) h .0) in
-    (leb-true (r .number) 2 (w .0), leb-true (r .place) 4 (w .1))
+first-low (r ∷ rs) h = let v = is-numbered r (and-both (numbered r) (allOf numbered rs) h .0) in (v .most, v .place)
 
-pub refusal-low : (t : Texts) (p : Refusal) → p ≡ firstRefusal (profileRefusals t) → (p .number ≤ 2) × (p .place ≤ 4)
-refusal-low t p e = rw e (first-low (profileRefusals t) (profile-low t))
+pub refusal-low : (t : Texts) (p : Refusal) → p ≡ firstRefusal (profileRefusals t) → (p .number ≤ 16) × (p .place ≤ 4)
+refusal-low t p e = rw e (first-low (profileRefusals t) (profile-numbered t))
 
 -- the texts of given lengths at the start of a text
 

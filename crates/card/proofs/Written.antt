@@ -11,18 +11,19 @@ use borrow.Author.Tests.{lt-ltb, le-ltb}
 use Rattle.text.specs.declared.Refusal.{Refusal}
 use Rattle.text.specs.Bytes.{Text, empty, anyOf}
 use Rattle.text.specs.Refusals.{refusedIf, firstRefusal}
-use Rattle.text.proofs.Lists.{or-right, no}
+use Rattle.text.proofs.Lists.{or-right, no, all-append}
 use Rattle.output.specs.Store.{stored}
 use Rattle.output.proofs.Stores.{length-stored, stored-front}
 use Rattle.profile.specs.Profile.{Texts}
 use Rattle.profile.specs.Refusals.{profileRefusals}
 use Rattle.answers.specs.Answer.{sum, total, textsIn, Answer, refused, accepted, firstOf, numberOf, placeOf}
+use Rattle.answers.proofs.Answers.{accepted-first}
 use Rattle.card.specs.declared.CardWritten.{CardWritten}
 use Rattle.card.specs.Card.{cardOf, cardTexts}
 use Rattle.card.specs.Writing.{lentTexts, longSection, unwritable, writeRefusals, writeAnswer, cardLength, cardAfter, writtenOf, Writes}
 use Rattle.card.proofs.Format.{card-length}
 use Rattle.card.proofs.WriteLoops.{put-then, four-length}
-use Rattle.card.proofs.Limits.{unempty, texts-count, texts-total, sum-short}
+use Rattle.card.proofs.Limits.{numbered, if-numbered, profile-numbered, Numbered, first-numbered, unempty, texts-count, texts-total, sum-short}
 
 -- how long the card of what is lent is
 pub lent-length : (t : Texts) (x : Text) (ns : List ℕ) → length ns ≡ 10 → sum ns ≤ length x →
@@ -30,7 +31,7 @@ pub lent-length : (t : Texts) (x : Text) (ns : List ℕ) → length ns ≡ 10 �
 unfolding lentTexts cardTexts total sum
 lent-length t x ns ten h = omega (arith, card-length (lentTexts t x ns), texts-count x ns, texts-total x ns h)
 
-some-refusal : (rs qs : List Refusal) (ts : List Text) → empty rs ≡ false → firstOf (rs ++ qs) ts ≡ refused (firstRefusal rs)
+pub some-refusal : (rs qs : List Refusal) (ts : List Text) → empty rs ≡ false → firstOf (rs ++ qs) ts ≡ refused (firstRefusal rs)
 unfolding empty firstOf firstRefusal
 some-refusal [] qs ts h = absurd (no (sym h))
 some-refusal (r ∷ rs) qs ts h = refl
@@ -48,6 +49,13 @@ module _ (room : ℕ) (t : Texts) (x : Text) (ns : List ℕ) where
     pub answer-written : unwritable room t x ns ≡ false → writeAnswer room t x ns ≡ accepted (lentTexts t x ns)
     unfolding writeAnswer writeRefusals refusedIf firstOf
     answer-written h = rw (clear, h)
+
+  -- a refusal's number and place
+  pub write-numbered : (p : Refusal) → writeAnswer room t x ns ≡ refused p → Numbered p
+  unfolding writeAnswer writeRefusals
+  write-numbered p h =
+      first-numbered (profileRefusals t ++ refusedIf (unwritable room t x ns) 11 0) (lentTexts t x ns) p
+      (all-append numbered (profileRefusals t) _ (profile-numbered t) (if-numbered _ 11 0 refl)) h
 
 -- the tests as they are made: n is the sum of the ten lengths, `size` the length of the card
 pub no-long : (room : ℕ) (t : Texts) (x : Text) (ns : List ℕ) (b : Bool) → b ≡ anyOf longSection ns → b ≡ true → unwritable room t x ns ≡ true
@@ -109,3 +117,70 @@ module _ (t : Texts) (x : Text) (ns : List ℕ) (d : Text) where
   way-written d′ n r h m k g e =
       let l : length (cardOf (lentTexts t x ns)) ≤ length d = omega arith in
       record { result = e ∙ rw (h, m); card = g ∙ stored-front d (cardOf (lentTexts t x ns)) l ∙ rw h }
+
+opened : (room : ℕ) (t : Texts) (x : Text) (ns : List ℕ) → firstOf (writeRefusals room t x ns) (lentTexts t x ns) ≡ writeAnswer room t x ns
+unfolding writeAnswer
+opened room t x ns = refl
+
+-- a writing as its answer says
+module _ (t : Texts) (x : Text) (ns : List ℕ) (d d′ : Text) (r : CardWritten) (v : Writes t x ns d d′ r) where
+  written-low : (a : Answer) → writeAnswer (length d) t x ns ≡ a → (r .number ≤ 16) × (r .place ≤ 4)
+  unfolding writtenOf numberOf placeOf
+  written-low (refused p) e =
+      let g : r ≡ writtenOf (refused p) = v .result ∙ ap writtenOf e in
+      let n : r .number ≡ p .number = ap (λ (q : CardWritten). q .number) g in
+      let m : r .place ≡ p .place = ap (λ (q : CardWritten). q .place) g in
+      let w = write-numbered (length d) t x ns p e in
+      (omega (arith, w .most), omega (arith, w .place))
+  written-low (accepted ts) e =
+      let g : r ≡ writtenOf (accepted ts) = v .result ∙ ap writtenOf e in
+      let n : r .number ≡ 0 = ap (λ (q : CardWritten). q .number) g in
+      let m : r .place ≡ 0 = ap (λ (q : CardWritten). q .place) g in
+      (omega arith, omega arith)
+
+  -- its number and place are small
+  pub writes-low : (r .number ≤ 16) × (r .place ≤ 4)
+  writes-low = written-low (writeAnswer (length d) t x ns) refl
+
+  pub record Wrote (ts : List Text) : Type 0 where
+    pub answer : writeAnswer (length d) t x ns ≡ accepted ts
+    pub size : r .length ≡ length (cardOf ts)
+    pub card : d′ ≡ cardAfter d (accepted ts)
+
+  wrote-when : (a : Answer) → writeAnswer (length d) t x ns ≡ a → r .number ≡ 0 → Wrote (lentTexts t x ns)
+  unfolding writtenOf numberOf cardLength
+  wrote-when (refused p) e h =
+      let g : r ≡ writtenOf (refused p) = v .result ∙ ap writtenOf e in
+      let n : r .number ≡ p .number = ap (λ (q : CardWritten). q .number) g in
+      absurd (omega (arith, write-numbered (length d) t x ns p e .least))
+  wrote-when (accepted ts) e h =
+      let w = accepted-first (writeRefusals (length d) t x ns) (lentTexts t x ns) ts (opened (length d) t x ns ∙ e) in
+      let f : writeAnswer (length d) t x ns ≡ accepted (lentTexts t x ns) = e ∙ ap accepted (sym (w .1)) in
+      let g : r ≡ writtenOf (accepted (lentTexts t x ns)) = v .result ∙ ap writtenOf f in
+      record { answer = f; size = ap (λ (q : CardWritten). q .length) g; card = v .card ∙ ap (cardAfter d) f }
+
+  -- number 0: the card is written
+  pub wrote : r .number ≡ 0 → Wrote (lentTexts t x ns)
+  wrote h = wrote-when (writeAnswer (length d) t x ns) refl h
+
+  pub record Kept (p : Refusal) : Type 0 where
+    pub answer : writeAnswer (length d) t x ns ≡ refused p
+    pub number : r .number ≡ p .number
+    pub place : r .place ≡ p .place
+    pub card : d′ ≡ d
+
+  kept-when : (a : Answer) → writeAnswer (length d) t x ns ≡ a → (r .number ≡ 0 → ⊥) → Kept (record { number = r .number; place = r .place })
+  unfolding writtenOf numberOf placeOf cardAfter
+  kept-when (refused p) e h =
+      let g : r ≡ writtenOf (refused p) = v .result ∙ ap writtenOf e in
+      let n : r .number ≡ p .number = ap (λ (q : CardWritten). q .number) g in
+      let m : r .place ≡ p .place = ap (λ (q : CardWritten). q .place) g in
+      let f : p ≡ record { number = r .number; place = r .place } = λ i. record { number = sym n i; place = sym m i } in
+      record { answer = e ∙ ap refused f; number = refl; place = refl; card = v .card ∙ ap (cardAfter d) e }
+  kept-when (accepted ts) e h =
+      let g : r ≡ writtenOf (accepted ts) = v .result ∙ ap writtenOf e in
+      absurd (h (ap (λ (q : CardWritten). q .number) g))
+
+  -- any other number: the buffer is as it was
+  pub kept : (r .number ≡ 0 → ⊥) → Kept (record { number = r .number; place = r .place })
+  kept h = kept-when (writeAnswer (length d) t x ns) refl h

@@ -2,3 +2,4 @@ pub mod Sheet
 pub mod OneByOne
 pub mod Entry
 pub mod Ways
+pub mod CardWays
