@@ -228,3 +228,19 @@ module _ (s : Text) (c : CardRead) (e : c ≡ readOf (judged s)) where
 
   pub judged-refused : (c .number ≡ 0 → ⊥) → (room : ℕ) → readAnswer room s ≡ refused bad
   judged-refused h room = read-bad room s (not-good s c e (broken sectionCount s || beyond (textsOn s)) refl h)
+
+is-zero : (q p : Refusal) → refused q ≡ refused p → q .place ≡ 0 → p .place ≡ 0
+is-zero q p h z = let e : q ≡ p = cc in ap (λ (r : Refusal). r .place) (sym e) ∙ z
+
+never : (ts : List Text) (p : Refusal) → accepted ts ≡ refused p → ⊥
+never ts p h = let z : _≡_ {A = ℕ} 0 1 = cc in omega arith
+
+-- a refusal of a reading has no place
+module _ (room : ℕ) (s : Text) where
+  place-when : (b : Bool) → broken sectionCount s || beyond (textsOn s) ≡ b → (k : Bool) → ltb room (total (textsOn s)) ≡ k → (p : Refusal) → readAnswer room s ≡ refused p → p .place ≡ 0
+  place-when true z k y p h = is-zero bad p (sym (read-bad room s z) ∙ h) refl
+  place-when false z true y p h = is-zero short p (sym (read-short room s z (ltb-true _ _ y)) ∙ h) refl
+  place-when false z false y p h = absurd (never (textsOn s) p (sym (read-whole room s z (ltb-false _ _ y)) ∙ h))
+
+  pub place-zero : (p : Refusal) → readAnswer room s ≡ refused p → p .place ≡ 0
+  place-zero p h = place-when (broken sectionCount s || beyond (textsOn s)) refl (ltb room (total (textsOn s))) refl p h

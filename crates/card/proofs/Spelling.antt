@@ -1,5 +1,5 @@
 -- What a card says: reading gives back what was written, and each card has one spelling.
-use Prim.Native.Nat.{ℕ, suc, _+_, _≤_, _<_}
+use Prim.Native.Nat.{ℕ, zero, suc, _+_, _*_, _≤_, _<_}
 use native.Mathlib.Omega.{arith}
 use mathlib.Core.Path.{_≡_, refl, sym, ap, _∙_}
 use mathlib.Core.List.{List, [], _∷_, _++_, map, append-assoc}
@@ -21,8 +21,8 @@ use Rattle.answers.proofs.Stretch.{joined-length}
 use Rattle.card.specs.Card.{longestSection, sectionCount, cardOf, cardTexts, cardProfile, sectionsIn, broken, Bytes}
 use Rattle.card.specs.Writing.{lentTexts, longSection, unwritable, writeRefusals, writeAnswer, cardAfter}
 use Rattle.card.specs.Reading.{textsOn, beyond, cardRefusals, readRefusals, readAnswer}
-use Rattle.card.proofs.Format.{sections-back, unbroken-back, card-back, sections-short}
-use Rattle.card.proofs.Limits.{limited, lengths-in, texts-count}
+use Rattle.card.proofs.Format.{sections-back, unbroken-back, card-back, sections-short, section-count}
+use Rattle.card.proofs.Limits.{limited, lengths-in, texts-count, texts-total, sum-short}
 use Rattle.card.proofs.Written.{answer-written}
 use Rattle.card.proofs.Judged.{read-whole}
 
@@ -72,6 +72,14 @@ module _ (room : ℕ) (t : Texts) (x : Text) (ns : List ℕ) (ts : List Text) (h
       let c : length (t .variants) ≤ longestSection = omega (arith, l .variants) in
       let d : length (t .options) ≤ longestSection = omega (arith, l .options) in
       rw (le-ltb longestSection _ a, le-ltb longestSection _ b, le-ltb longestSection _ c, le-ltb longestSection _ d, lengths-in x ns written-sum) (able .0)
+
+  -- ten lengths that fit a card, behind four texts within the limits
+  pub written-few : length ns ≡ 10 → total ts ≤ 4096 + longestSection * 10
+  unfolding lentTexts cardTexts total sum
+  written-few ten =
+      let l = limited t written-profile in
+      let k = sum-short ns (able .0) in
+      rw written-texts (omega (arith, l .model, l .layouts, l .variants, l .options, texts-total x ns written-sum))
 
   -- "With room, reading back gives what was written"
   module _ (ten : length ns ≡ 10) where
@@ -157,3 +165,44 @@ module _ (room : ℕ) (s : Text) (ts : List Text) (h : readAnswer room s ≡ acc
 -- "each card still has one spelling"
 pub one-spelling : (room room′ : ℕ) (s s′ : Text) (ts : List Text) → Bytes s → Bytes s′ → readAnswer room s ≡ accepted ts → readAnswer room′ s′ ≡ accepted ts → s ≡ s′
 one-spelling room room′ s s′ ts b b′ h k = sym (spelled-so room s ts h b) ∙ spelled-so room′ s′ ts k b′
+
+-- the texts of a buffer
+
+pub joined-back : (ts : List Text) (r : Text) → textsIn (joined ts ++ r) (map length ts) ≡ ts
+unfolding textsIn joined
+joined-back [] r = refl
+joined-back (t ∷ ts) r = rw (append-assoc t (joined ts) r, take-append-seam t (joined ts ++ r), drop-append-seam t (joined ts ++ r), joined-back ts r)
+
+-- those behind the first k begin behind their lengths' sum
+pub texts-behind : (k : ℕ) (d : Text) (ns : List ℕ) → textsIn (drop (sum (take k ns)) d) (drop k ns) ≡ drop k (textsIn d ns)
+unfolding textsIn sum
+texts-behind zero d ns = refl
+texts-behind (suc k) d [] = refl
+texts-behind (suc k) d (n ∷ ns) = rw (← drop-drop (sum (take k ns)) n d) (texts-behind k (drop n d) ns)
+
+pub sum-behind : (k : ℕ) (ns : List ℕ) → sum (take k ns) + sum (drop k ns) ≡ sum ns
+unfolding sum
+sum-behind zero ns = omega arith
+sum-behind (suc k) [] = refl
+sum-behind (suc k) (n ∷ ns) = omega (arith, sum-behind k ns)
+
+-- fourteen texts are a profile and the ten behind it
+pub texts-cut : (ts : List Text) → length ts ≡ sectionCount → cardTexts (cardProfile ts) (drop 4 ts) ≡ ts
+unfolding cardTexts cardProfile
+texts-cut [] h = absurd (omega arith)
+texts-cut (a ∷ []) h = absurd (omega arith)
+texts-cut (a ∷ b ∷ []) h = absurd (omega arith)
+texts-cut (a ∷ b ∷ c ∷ []) h = absurd (omega arith)
+texts-cut (a ∷ b ∷ c ∷ d ∷ ts) h = refl
+
+-- how many texts an accepted card has, and how long they are
+module _ (room : ℕ) (s : Text) (ts : List Text) (h : readAnswer room s ≡ accepted ts) where
+  pub read-count : length ts ≡ sectionCount
+  unfolding textsOn
+  read-count = rw (read-texts room s ts h) (section-count sectionCount s)
+
+  pub read-short-sum : Bytes s → total ts ≤ longestSection * sectionCount
+  unfolding total
+  read-short-sum b =
+      let k : length (map length ts) ≡ sectionCount = length-map ts length ∙ read-count in
+      omega (arith, k, sum-short (map length ts) (sections-so room s ts h b))

@@ -3,3 +3,4 @@ pub mod OneByOne
 pub mod Entry
 pub mod Ways
 pub mod CardWays
+pub mod Desk
