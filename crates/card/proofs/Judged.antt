@@ -1,9 +1,9 @@
 -- The ways out of a reading.
-use Prim.Native.Nat.{ℕ, suc, _+_, _*_, _-_, _≤_, _<_}
+use Prim.Native.Nat.{ℕ, _+_, _-_, _≤_, _<_}
 use native.Mathlib.Omega.{arith}
 use mathlib.Core.Path.{_≡_, refl, sym, ap, _∙_}
-use mathlib.Core.List.{List, [], _∷_, _++_, map}
-use mathlib.Core.Bool.{Bool, true, false, not, _||_, cond}
+use mathlib.Core.List.{List, [], map}
+use mathlib.Core.Bool.{Bool, true, false, _||_}
 use lib.ListN.{length, take, drop, getD, replicate, length-map}
 use lib.Dec.{ltb}
 use borrow.Author.Tests.{lt-ltb, le-ltb, ltb-true, ltb-false}
@@ -13,7 +13,7 @@ use Rattle.text.specs.Refusals.{refusedIf, firstRefusal}
 use Rattle.text.proofs.Lists.{or-right, no}
 use Rattle.profile.specs.Profile.{textsOf}
 use Rattle.profile.specs.Refusals.{profileRefusals}
-use Rattle.answers.specs.Answer.{sum, total, Answer, refused, accepted, firstOf, numberOf, bufferAfter}
+use Rattle.answers.specs.Answer.{sum, total, refused, accepted, firstOf, numberOf, bufferAfter}
 use Rattle.card.specs.declared.CardRead.{CardRead}
 use Rattle.card.specs.declared.Found.{Found}
 use Rattle.card.specs.Card.{sectionCount, cardProfile, sectionsIn, broken, startAt}

@@ -1,17 +1,17 @@
 -- The limits of a card: its profile's first refusal, and the lengths of its texts.
-use Prim.Native.Nat.{ℕ, suc, _+_, _*_, _≤_, _<_}
+use Prim.Native.Nat.{ℕ, suc, _*_, _≤_}
 use native.Mathlib.Omega.{arith}
 use mathlib.Core.Path.{_≡_, refl, sym, ap, ap₂, _∙_}
-use mathlib.Core.List.{List, [], _∷_, _++_, map}
+use mathlib.Core.List.{List, [], _∷_, map}
 use mathlib.Core.Bool.{Bool, true, false, _||_, _&&_}
-use lib.ListN.{length, take, drop, length-take, length-drop, length-map}
+use lib.ListN.{length, take, drop, length-take, length-drop}
 use lib.Dec.{ltb, leb}
 use borrow.Author.Tests.{ltb-false, leb-true}
 use Rattle.text.specs.declared.Refusal.{Refusal}
 use Rattle.text.specs.Limits.{longestText}
 use Rattle.text.specs.Bytes.{Text, empty, allOf, anyOf}
 use Rattle.text.specs.Refusals.{refusedIf, firstRefusal, isNumber, hasNumber}
-use Rattle.text.proofs.Lists.{and-both, both-and, neither, all-append, nil-left, nil-right}
+use Rattle.text.proofs.Lists.{and-both, neither, all-append, nil-left, nil-right}
 use Rattle.text.proofs.Numbers.{clear-if}
 use Rattle.profile.specs.Profile.{Texts, fields}
 use Rattle.profile.specs.Refusals.{outside, longField, badText, textRefusals, countRefusals, profileRefusals}

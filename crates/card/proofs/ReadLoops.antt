@@ -1,14 +1,13 @@
 -- Sections read one after the other.
-use Prim.Native.Nat.{ℕ, zero, suc, _+_, _*_, _-_, _≤_, _<_}
+use Prim.Native.Nat.{ℕ, suc, _+_, _*_, _-_, _≤_, _<_}
 use native.Mathlib.Nat.{add-zero}
 use native.Mathlib.Numerals.{add-one}
 use native.Mathlib.Omega.{arith}
 use mathlib.Core.Path.{_≡_, refl, sym, ap, _∙_}
-use mathlib.Core.List.{List, [], _∷_, _++_, map, append-nil, append-assoc}
-use mathlib.Core.Bool.{Bool, true, false, not, _||_}
-use lib.ListN.{length, take, drop, getD, set, replicate, length-set, length-drop, length-append, drop-of-length-le}
+use mathlib.Core.List.{List, _∷_, _++_, map, append-nil, append-assoc}
+use mathlib.Core.Bool.{true, false, _||_}
+use lib.ListN.{length, take, drop, getD, set, replicate, length-set, length-drop, drop-of-length-le}
 use lib.Seq.{drop-drop, getD-drop, take-suc-set, take-all}
-use lib.Dec.{ltb}
 use borrow.Author.Tests.{lt-ltb, le-ltb}
 use Rattle.text.specs.Bytes.{Text, part, empty}
 use Rattle.text.proofs.Lists.{empty-some}
@@ -21,7 +20,7 @@ use Rattle.answers.proofs.Stretch.{joined-length}
 use Rattle.card.specs.declared.Found.{Found}
 use Rattle.card.specs.Card.{sectionCount, sectionLength, cutShort, behindSection, sectionsIn, broken}
 use Rattle.card.specs.Reading.{textsOn, foundIn, Sectioned}
-use Rattle.card.proofs.Format.{unbroken-first, text-length, whole-length, section-count, sections-length}
+use Rattle.card.proofs.Format.{unbroken-first, text-length, whole-length}
 
 -- `section_length`
 pub length-at : (s : Text) (at : ℕ) → sectionLength (drop at s) ≡ getD s at 0 + 256 * getD s (at + 1) 0

@@ -1,25 +1,22 @@
 -- What a card says: reading gives back what was written, and each card has one spelling.
-use Prim.Native.Nat.{ℕ, zero, suc, _+_, _*_, _≤_, _<_}
+use Prim.Native.Nat.{ℕ, zero, suc, _+_, _*_, _≤_}
 use native.Mathlib.Omega.{arith}
 use mathlib.Core.Path.{_≡_, refl, sym, ap, _∙_}
 use mathlib.Core.List.{List, [], _∷_, _++_, map, append-assoc}
-use mathlib.Core.Bool.{Bool, true, false, not, _||_}
-use lib.ListN.{length, take, drop, length-append, length-drop, length-map}
+use mathlib.Core.Bool.{false, not, _||_}
+use lib.ListN.{length, take, drop, length-map}
 use lib.Seq.{take-append-seam, drop-append-seam, drop-drop}
 use lib.Dec.{ltb}
 use borrow.Author.Tests.{le-ltb, ltb-false}
-use Rattle.text.specs.declared.Refusal.{Refusal}
 use Rattle.text.specs.Bytes.{Text, empty, anyOf}
-use Rattle.text.specs.Refusals.{refusedIf}
 use Rattle.text.proofs.Lists.{no, neither, nil-left, nil-right}
 use Rattle.text.proofs.Numbers.{clear-if}
 use Rattle.profile.specs.Profile.{Texts}
 use Rattle.profile.specs.Refusals.{profileRefusals}
-use Rattle.answers.specs.Answer.{sum, joined, total, textsIn, Answer, refused, accepted, firstOf, bufferAfter}
+use Rattle.answers.specs.Answer.{sum, joined, total, textsIn, accepted}
 use Rattle.answers.proofs.Answers.{accepted-first}
-use Rattle.answers.proofs.Stretch.{joined-length}
 use Rattle.card.specs.Card.{longestSection, sectionCount, cardOf, cardTexts, cardProfile, sectionsIn, broken, Bytes}
-use Rattle.card.specs.Writing.{lentTexts, longSection, unwritable, writeRefusals, writeAnswer, cardAfter}
+use Rattle.card.specs.Writing.{lentTexts, longSection, unwritable, writeRefusals, writeAnswer}
 use Rattle.card.specs.Reading.{textsOn, beyond, cardRefusals, readRefusals, readAnswer}
 use Rattle.card.proofs.Format.{sections-back, unbroken-back, card-back, sections-short, section-count}
 use Rattle.card.proofs.Limits.{limited, lengths-in, texts-count, texts-total, sum-short}

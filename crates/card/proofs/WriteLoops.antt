@@ -1,11 +1,11 @@
 -- Sections written one after the other.
-use Prim.Native.Nat.{ℕ, zero, suc, _+_, _*_, _-_, _/_, _%_, _≤_, _<_}
+use Prim.Native.Nat.{ℕ, _+_, _*_, _-_, _/_, _%_, _≤_, _<_}
 use native.Mathlib.Nat.{sub-zero}
 use native.Mathlib.Omega.{arith}
 use mathlib.Core.Path.{_≡_, refl, sym, ap, _∙_}
 use mathlib.Core.List.{List, [], _∷_, _++_, append-nil}
-use mathlib.Core.Bool.{Bool, true, false, _||_}
-use lib.ListN.{length, take, drop, getD, set, length-set, length-append, drop-of-length-le}
+use mathlib.Core.Bool.{true, false, _||_}
+use lib.ListN.{length, drop, getD, set, length-append, drop-of-length-le}
 use lib.Seq.{drop-drop, take-length}
 use lib.Dec.{ltb}
 use borrow.Author.Tests.{lt-ltb, le-ltb, ltb-false}
@@ -15,7 +15,7 @@ use Rattle.text.proofs.Comparing.{drop-at}
 use Rattle.text.proofs.Positions.{length-part}
 use Rattle.output.specs.Store.{stored}
 use Rattle.output.proofs.Stores.{stored-append, stored-none, length-stored}
-use Rattle.profile.specs.Profile.{Texts, textsOf}
+use Rattle.profile.specs.Profile.{textsOf}
 use Rattle.answers.specs.Answer.{sum, total, textsIn}
 use Rattle.card.specs.Card.{longestSection, twoBytes, section, cardOf, cardTexts}
 use Rattle.card.specs.Writing.{longSection}

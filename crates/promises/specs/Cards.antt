@@ -1,7 +1,7 @@
 -- What is promised of every desk card. Document 02, #102. First over the definitions, then over what the running entries for C leave. Each proof cites a law.
 -- `writeAnswer room t x ns` is the answer of a writing that is lent the four texts t of a profile, a slice x of texts, ten lengths ns and a buffer of `room`
 -- bytes; `readAnswer room s` that of a reading of the card s; an accepted answer has the fourteen texts.
-use Prim.Native.Nat.{ℕ, _+_, _^_, _≤_, _<_}
+use Prim.Native.Nat.{ℕ, _^_, _≤_, _<_}
 use mathlib.Core.Path.{_≡_}
 use mathlib.Core.List.{List, map}
 use lib.ListN.{length, take, drop}

@@ -1,23 +1,21 @@
 -- The ways out of the entries that write and read a card.
 use Prim.Native.Nat.{ℕ, _+_, _*_, _^_, _≤_, _<_}
-use native.Mathlib.Omega.{arith}
 use mathlib.Core.Path.{_≡_, refl, sym, ap, _∙_}
-use mathlib.Core.List.{List, [], _∷_, _++_, map, append-nil}
-use mathlib.Core.Bool.{Bool, true, false, _||_}
+use mathlib.Core.List.{List, [], _∷_, _++_, append-nil}
+use mathlib.Core.Bool.{Bool, true, false}
 use lib.ListN.{length, drop}
 use lib.Dec.{ltb}
 use borrow.Author.Tests.{lt-ltb, le-ltb}
 use Rattle.text.specs.declared.Refusal.{Refusal}
-use Rattle.text.specs.Bytes.{Text, empty, concatMap}
+use Rattle.text.specs.Bytes.{Text, concatMap}
 use Rattle.text.specs.Refusals.{refusedIf, firstRefusal}
 use Rattle.profile.specs.Profile.{Texts}
 use Rattle.profile.specs.Refusals.{profileRefusals}
-use Rattle.answers.specs.Answer.{total, Answer, refused, accepted, firstOf, numberOf, placeOf, bufferAfter}
+use Rattle.answers.specs.Answer.{total, refused, firstOf, numberOf, placeOf, bufferAfter}
 use Rattle.card.specs.declared.CardWritten.{CardWritten}
 use Rattle.card.specs.declared.CardRead.{CardRead}
-use Rattle.card.specs.Card.{cardOf}
-use Rattle.card.specs.Writing.{lentTexts, unwritable, writeRefusals, writeAnswer, cardAfter, Writes}
-use Rattle.card.specs.Reading.{textsOn, cardRefusals, readRefusals, judged, readAnswer, readOf, Reads}
+use Rattle.card.specs.Writing.{lentTexts, writeRefusals, writeAnswer, cardAfter, Writes}
+use Rattle.card.specs.Reading.{textsOn, readRefusals, judged, readAnswer, readOf, Reads}
 use Rattle.card.proofs.Limits.{unempty, unrefused}
 use Rattle.card.proofs.Written.{some-refusal, wrote, kept}
 use Rattle.card.proofs.Judged.{taken, untouched, judged-clear, judged-refused}

@@ -2,28 +2,28 @@
 use Prim.Native.Nat.{ℕ, zero, suc, _+_, _*_, _^_, _≤_, _<_}
 use native.Mathlib.Omega.{arith}
 use mathlib.Core.Path.{_≡_, refl, sym, ap, ap₂, _∙_}
-use mathlib.Core.List.{List, [], _∷_, _++_, map}
+use mathlib.Core.List.{List, _∷_, _++_, map}
 use mathlib.Core.Bool.{_||_}
-use lib.ListN.{length, take, drop, getD, length-append, length-drop, length-map}
+use lib.ListN.{length, take, drop, length-append, length-drop, length-map}
 use lib.Seq.{getD-drop, take-append-seam, drop-append-seam, drop-at}
 use lib.Dec.{ltb}
 use borrow.Author.Tests.{ltb-false}
 use Rattle.text.specs.declared.Refusal.{Refusal}
-use Rattle.text.specs.Bytes.{Text, anyOf, concatMap}
+use Rattle.text.specs.Bytes.{Text, concatMap}
 use Rattle.text.specs.Refusals.{refusedIf}
-use Rattle.text.proofs.Lists.{neither, nil-left, nil-right, all-append}
+use Rattle.text.proofs.Lists.{neither, nil-right, all-append}
 use Rattle.text.proofs.Numbers.{clear-if}
 use Rattle.profile.specs.Profile.{Texts}
 use Rattle.profile.specs.Refusals.{profileRefusals}
-use Rattle.answers.specs.Answer.{sum, joined, total, textsIn, Answer, refused, accepted, firstOf, numberOf, placeOf, bufferAfter}
+use Rattle.answers.specs.Answer.{sum, joined, total, textsIn, Answer, refused, accepted, numberOf, placeOf, bufferAfter}
 use Rattle.answers.proofs.Answers.{accepted-first}
 use Rattle.answers.proofs.Stretch.{joined-length}
 use Rattle.card.specs.Card.{sectionCount, cardOf, cardTexts, cardProfile, Bytes}
-use Rattle.card.specs.Writing.{lentTexts, longSection, unwritable, writeAnswer, cardAfter}
+use Rattle.card.specs.Writing.{lentTexts, unwritable, writeAnswer, cardAfter}
 use Rattle.card.specs.Reading.{textsOn, cardRefusals, readRefusals, readAnswer}
 use Rattle.card.proofs.Limits.{numbered, if-numbered, profile-numbered, Numbered, first-numbered, texts-count}
 use Rattle.card.proofs.Format.{card-length}
-use Rattle.card.proofs.Spelling.{read-back, read-texts, read-room, read-count, read-short-sum, written-few, spelled-so, written-so, joined-back, texts-behind, sum-behind, texts-cut}
+use Rattle.card.proofs.Spelling.{read-back, read-count, read-short-sum, written-few, spelled-so, written-so, joined-back, texts-behind, sum-behind, texts-cut}
 use Rattle.xkbrules.specs.Sheet.{sheetLength, littleEndian, numberAt, numbersFrom, lengthsIn, code}
 use Rattle.xkbrules.specs.Cards.{entryWriteRefusals, entryWrite, writeCode, cardSheetLength, cardLengthsIn, entryReadRefusals, entryRead, cardSheetAfter, CardWrites, CardReads}
 use Rattle.xkbrules.proofs.Sheet.{numbers-back, numbers-length, written-length}

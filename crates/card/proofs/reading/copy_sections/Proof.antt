@@ -1,7 +1,5 @@
-use Prim.Native.Nat.{_+_, _-_, _≤_}
+use Prim.Native.Nat.{_-_}
 use native.Mathlib.Omega.{arith}
-use mathlib.Core.Path.{_≡_, refl, sym, _∙_}
-use lib.ListN.{length}
 use Rattle.card.proofs.ReadLoops.{Copying, copying-start, copying-there, copying-room, copying-more, copying-end}
 use borrow.Author.Needs.{needs}
 use Rattle.card.proofs.reading.copy_sections.Statement.{statement}

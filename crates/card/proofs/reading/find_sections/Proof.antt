@@ -1,7 +1,6 @@
-use Prim.Native.Nat.{_+_, _-_, _≤_}
+use Prim.Native.Nat.{_-_}
 use native.Mathlib.Omega.{arith}
-use mathlib.Core.Path.{_≡_, refl, sym, _∙_}
-use lib.ListN.{length}
+use mathlib.Core.Path.{refl}
 use Rattle.card.proofs.ReadLoops.{Finding, finding-start, finding-cut, finding-more, finding-left, finding-end}
 use borrow.Author.Needs.{needs}
 use Rattle.card.proofs.reading.find_sections.Statement.{statement}

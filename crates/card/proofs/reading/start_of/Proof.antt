@@ -1,7 +1,6 @@
-use Prim.Native.Nat.{_+_, _*_, _-_, _≤_}
+use Prim.Native.Nat.{_*_, _-_, _≤_}
 use native.Mathlib.Omega.{arith}
 use mathlib.Core.Path.{_≡_, sym, ap, _∙_}
-use lib.ListN.{length}
 use Rattle.card.specs.Card.{startAt}
 use Rattle.card.proofs.Format.{start-none, start-more}
 use borrow.Author.Needs.{needs}

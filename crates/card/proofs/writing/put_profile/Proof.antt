@@ -1,9 +1,6 @@
 use Rattle.card.specs.Card.{cardTexts}
-use Prim.Native.Nat.{_+_, _-_, _≤_}
-use native.Mathlib.Omega.{arith}
-use mathlib.Core.Path.{_≡_, refl, sym, _∙_}
-use lib.ListN.{length}
-use Rattle.card.proofs.WriteLoops.{Put, put-none, put-next}
+use Prim.Native.Nat.{_-_}
+use Rattle.card.proofs.WriteLoops.{put-none, put-next}
 use borrow.Author.Needs.{needs}
 use Rattle.card.proofs.writing.put_profile.Statement.{statement}
 use Rattle.card.proofs.writing.put_profile.Tie as tie
