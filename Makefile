@@ -1,4 +1,4 @@
-# `make` proves every crate, builds the static library, the two programs and the C example, and runs document 01's example; `make test` is the gate;
+# `make` proves every crate, builds the static library, the two programs and the C examples, and runs document 01's example; `make test` is the gate;
 # `make stock` compares the library with the second resolver on the rules files of Debian's xkb-data, which it installs if they are not there;
 # `make keymap-test` compares keymaps; `make install PREFIX=/usr/local DESTDIR=` and `make uninstall` do what they say.
 .PHONY: all test bench stock keymap-test install uninstall clean
@@ -20,6 +20,7 @@ all:
 	rt staticlib xkbrules
 	$(MAKE) --no-print-directory $(TOOL)
 	$(CC) $(CFLAGS) -Iinclude -o target/seat examples/seat.c $(LIB)
+	$(CC) $(CFLAGS) -Iinclude -o target/card examples/card.c $(LIB)
 	target/bin/xkbresolve < crates/xkbresolve/stdin
 	tail -n +5 crates/xkbresolve/stdin | target/seat /dev/stdin pc us,fr ,bepo ctrl:nocaps
 

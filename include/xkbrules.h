@@ -1,11 +1,12 @@
 /* xkbrules: resolves an XKB rules file for a keyboard profile (model, layouts, variants, options) into the five component strings keycodes, types,
-   compat, symbols and geometry, or says why it can't. Link with libxkbrules.a; nothing else is needed. C99 or C++.
+   compat, symbols and geometry, or says why it can't; and writes and reads the card by which a resolved profile is sent to a desk. Link with
+   libxkbrules.a; nothing else is needed. C99 or C++.
 
    Every slice is a pointer and its length in bytes. Texts are bytes and need no closing zero. A slice of length 0 may have any pointer, also NULL.
-   `texts` and `sheet` are written: they must not overlap each other or any other slice of the call. The others are only read, and may overlap.
+   A slice that is no `const` is written: it must not overlap any other slice of the call. The others are only read, and may overlap.
 
    The functions keep no state between calls, allocate nothing and lock nothing, so any number of threads may call them at once, each with its own
-   `texts` and `sheet`. They always return. They use about 32 KiB of stack.
+   slices to write to. They always return. They use about 32 KiB of stack.
 
    An example:
 
@@ -46,7 +47,8 @@ enum xkbrules_refusal {
     XKBRULES_BAD_PERCENT = 8,      /* a percent sign that starts no known item */
     XKBRULES_INCLUDE = 9,          /* an include line: write the included rules out */
     XKBRULES_BAD_GROUP = 10,       /* a group defined twice, or a 65th */
-    XKBRULES_NO_ROOM = 11          /* the strings don't fit `texts` or are over 1,048,576 bytes, or `sheet` is under 40 bytes */
+    XKBRULES_NO_ROOM = 11,         /* the strings don't fit `texts` or are over 1,048,576 bytes, or `sheet` is under 40 bytes; for a card, see below */
+    XKBRULES_BROKEN_CARD = 16      /* a card that is cut short or goes on behind its end, or whose profile 1 or 2 would be given for */
 };
 
 /* The components, by their numbers. */
@@ -64,6 +66,14 @@ enum {
     XKBRULES_SHEET = 40,
     XKBRULES_ROOM = 65536,
     XKBRULES_MOST_ROOM = 1048576
+};
+
+/* Sizes for cards. No card is longer than the first: 28 bytes are its lengths, then come four texts of at most 1,024 bytes and ten of at most 65,535. The
+   second is the sheet of a card's fourteen lengths, and the third is how many they are. */
+enum {
+    XKBRULES_MOST_CARD = 659474,
+    XKBRULES_CARD_SHEET = 56,
+    XKBRULES_CARD_TEXTS = 14
 };
 
 /* Resolves a rules file for a profile.
@@ -98,6 +108,39 @@ uint64_t xkbrules_component(const uint8_t *texts, size_t texts_len,
                             const uint8_t *sheet, size_t sheet_len,
                             uint64_t component);
 
+/* Writes a card: a resolved profile, for a desk to read. Its fourteen texts are the profile's four and the ten of the answer, in that order, each after its
+   length in two bytes, the lower first. Nothing else stands in a card, and the same texts give the same bytes.
+
+   model ..   the four texts of the profile, as for xkbrules_resolve
+   texts      ten texts without gaps, as xkbrules_resolve left them; any bytes, and what stands behind the ten is ignored
+   sheet      their lengths, as xkbrules_resolve left them
+   card       room for the card: accepted, it starts with it
+
+   Returns the card's length, below 2^48, so that xkbrules_number gives 0; else a refusal's number times 2^48 plus its place: XKBRULES_BAD_TEXT and
+   XKBRULES_TOO_MANY as xkbrules_resolve, then XKBRULES_NO_ROOM for a sheet under 40 bytes, a text over 65,535 bytes, lengths that add up to more than
+   texts_len, or a card that is too long for card_len. All other bytes of `card` stay as they were; after a refusal, all of them. */
+uint64_t xkbrules_card_write(const uint8_t *model, size_t model_len,
+                             const uint8_t *layouts, size_t layouts_len,
+                             const uint8_t *variants, size_t variants_len,
+                             const uint8_t *options, size_t options_len,
+                             const uint8_t *texts, size_t texts_len,
+                             const uint8_t *sheet, size_t sheet_len,
+                             uint8_t *card, size_t card_len);
+
+/* Reads a card. With what it gives, xkbrules_card_write gives the same card again.
+
+   card   the bytes of a card, and nothing behind them
+   texts  room for the fourteen texts: accepted, it starts with them, without gaps
+   sheet  room for their lengths: accepted, its first 56 bytes hold them as little-endian 32-bit numbers
+
+   The last ten texts begin behind the first four, and the last 40 of the 56 bytes are a sheet of their lengths: both can be lent to xkbrules_component.
+
+   Returns 0 where the card is accepted; else a refusal's number times 2^48: XKBRULES_BROKEN_CARD, then XKBRULES_NO_ROOM for texts that don't fit texts_len
+   or a sheet under 56 bytes. All other bytes of `texts` and `sheet` stay as they were; after a refusal, all of them. */
+uint64_t xkbrules_card_read(const uint8_t *card, size_t card_len,
+                            uint8_t *texts, size_t texts_len,
+                            uint8_t *sheet, size_t sheet_len);
+
 /* The number of an answer: one of enum xkbrules_refusal. */
 static inline unsigned xkbrules_number(uint64_t answer)
 {
@@ -120,6 +163,13 @@ static inline size_t xkbrules_start(uint64_t component)
 static inline size_t xkbrules_length(uint64_t component)
 {
     return (size_t)(component & UINT64_C(0xFFFFFFFF));
+}
+
+/* One of the lengths in a sheet, that of the text of this number, counted from 0. */
+static inline uint32_t xkbrules_sheet_length(const uint8_t *sheet, size_t number)
+{
+    const uint8_t *p = sheet + 4 * number;
+    return (uint32_t)p[0] | (uint32_t)p[1] << 8 | (uint32_t)p[2] << 16 | (uint32_t)p[3] << 24;
 }
 
 #ifdef __cplusplus

@@ -1,6 +1,7 @@
-/* xkbrules: a command for people who write rules files. `check` shows the first bad line of a file, `resolve` what a profile becomes under it.
+/* xkbrules: a command for people who write rules files. `check` shows the first bad line of a file, `resolve` what a profile becomes under it; `card` writes
+   that as a desk's card, and `show-card` shows what a card holds.
 
-   Every refusal, with its number and place, and every string comes from libxkbrules.a; nothing here decides about a rule or a profile.
+   Every refusal, with its number and place, and every string comes from libxkbrules.a; nothing here decides about a rule, a profile or a card.
 
    What is shown of a file, a file's name or the command's own words goes through put_safe, so that no byte of it reaches a terminal as a command. */
 #include <errno.h>
@@ -31,7 +32,8 @@ static const char *const refusals[] = {
     [XKBRULES_BAD_PERCENT] = "malformed percent item",
     [XKBRULES_INCLUDE] = "include line: the included rules have to be written out",
     [XKBRULES_BAD_GROUP] = "group defined twice, or a 65th",
-    [XKBRULES_NO_ROOM] = "strings longer than 1,048,576 bytes in all"
+    [XKBRULES_NO_ROOM] = "strings longer than 1,048,576 bytes in all",
+    [XKBRULES_BROKEN_CARD] = "broken card: cut short, or with bytes left over, or with a profile beyond the limits"
 };
 
 /* The four texts in the library's order, which is that of its places from 1 on: what each is called, and its option. The name is taken as an option too,
@@ -53,11 +55,15 @@ static const char *const components[] = {"keycodes", "types", "compat", "symbols
 static const char help[] =
     "usage: xkbrules check FILE\n"
     "       xkbrules resolve FILE [-m MODEL] [-l LAYOUTS] [-v VARIANTS] [-o OPTIONS] [--keymap]\n"
+    "       xkbrules card FILE [-m MODEL] [-l LAYOUTS] [-v VARIANTS] [-o OPTIONS] > CARD\n"
+    "       xkbrules show-card CARD\n"
     "\n"
-    "check    shows the first bad line of an XKB rules file, and why it is refused\n"
-    "resolve  prints the five component strings that a profile becomes under it\n"
+    "check      shows the first bad line of an XKB rules file, and why it is refused\n"
+    "resolve    prints the five component strings that a profile becomes under it\n"
+    "card       writes the profile and its strings as a card, for a desk to read\n"
+    "show-card  prints the profile and the strings of a card\n"
     "\n"
-    "FILE is a rules file, or - for standard input.\n"
+    "FILE is a rules file and CARD a card, or - for standard input.\n"
     "\n"
     "  -m, --model MODEL       one model\n"
     "  -l, --layout LAYOUTS    one to four layouts with commas between\n"
@@ -67,12 +73,14 @@ static const char help[] =
     "  -h, --help              print this\n"
     "  -V, --version           print the version\n"
     "\n"
-    "Exit status: 0 good, 1 refused, 2 misused, or the file is over 65,536 bytes or unreadable.\n"
+    "Exit status: 0 good, 1 refused, 2 misused, or the rules are over 65,536 bytes or unreadable.\n"
     "\n"
     "Examples:\n"
     "  xkbrules check house.rules\n"
     "  xkbrules resolve house.rules -m pc105 -l us,fr -v ,bepo -o ctrl:nocaps,compose:menu\n"
-    "  xkbrules resolve /usr/share/X11/xkb/rules/evdev -m pc105 -l de --keymap | xkbcomp -xkm - de.xkm\n";
+    "  xkbrules resolve /usr/share/X11/xkb/rules/evdev -m pc105 -l de --keymap | xkbcomp -xkm - de.xkm\n"
+    "  xkbrules card house.rules -m pc105 -l us,fr > desk.card\n"
+    "  xkbrules show-card desk.card\n";
 
 /* What the command line asks for. */
 typedef struct {
@@ -87,24 +95,26 @@ static uint8_t rules[MOST_RULES + 1]; /* one more than may be, so that the libra
 static size_t rules_len;
 static uint8_t strings[XKBRULES_MOST_ROOM];
 static uint8_t sheet[XKBRULES_SHEET];
+static uint8_t card[XKBRULES_MOST_CARD + 1]; /* one more than may be, so that the library sees what stands behind a card */
+static size_t card_len;
 
 /* -- Showing -- */
 
 /* Bytes that are not 0x20 to 0x7E are shown as \x1B; a tab too, unless it is in a line. */
-static void put_safe(const char *s, size_t n, int in_line)
+static void put_safe(FILE *to, const char *s, size_t n, int in_line)
 {
     for (size_t i = 0; i < n; i++) {
         unsigned char c = (unsigned char)s[i];
         if ((c >= 0x20 && c <= 0x7E) || (c == '\t' && in_line))
-            putc(c, stderr);
+            putc(c, to);
         else
-            fprintf(stderr, "\\x%02X", c);
+            fprintf(to, "\\x%02X", c);
     }
 }
 
 static void put_word(const char *s)
 {
-    put_safe(s, strlen(s), 0);
+    put_safe(stderr, s, strlen(s), 0);
 }
 
 static const char *name_of(const char *file)
@@ -116,7 +126,7 @@ static const char *name_of(const char *file)
 static void put_below(const char *s, size_t n, int in_line)
 {
     fputs("    ", stderr);
-    put_safe(s, n < MOST_SHOWN ? n : MOST_SHOWN, in_line);
+    put_safe(stderr, s, n < MOST_SHOWN ? n : MOST_SHOWN, in_line);
     if (n > MOST_SHOWN)
         fprintf(stderr, " ... (%d of %lu bytes)", MOST_SHOWN, (unsigned long)n);
     putc('\n', stderr);
@@ -154,7 +164,7 @@ static int printed(void)
 static void put_refusal(unsigned number)
 {
     int known = number >= 1 && number < sizeof refusals / sizeof refusals[0];
-    fprintf(stderr, "refused %u: %s\n", number, known ? refusals[number] : "not a known refusal");
+    fprintf(stderr, "refused %u: %s\n", number, known && refusals[number] != NULL ? refusals[number] : "not a known refusal");
 }
 
 /* The physical line of a number, counted from 1, without its LF. */
@@ -216,17 +226,28 @@ static int refused(const request *asked, uint64_t answer)
 
 /* -- Answers -- */
 
-static uint64_t answer_for(const request *asked)
-{
+typedef struct {
     const uint8_t *in[TEXTS];
     size_t len[TEXTS];
+} profile;
+
+static profile profile_of(const request *asked)
+{
+    profile p;
 
     for (int i = 0; i < TEXTS; i++) {
-        in[i] = (const uint8_t *)asked->texts[i];
-        len[i] = strlen(asked->texts[i]);
+        p.in[i] = (const uint8_t *)asked->texts[i];
+        p.len[i] = strlen(asked->texts[i]);
     }
-    return xkbrules_resolve(rules, rules_len, in[MODEL], len[MODEL], in[LAYOUTS], len[LAYOUTS], in[VARIANTS], len[VARIANTS],
-                            in[OPTIONS], len[OPTIONS], strings, sizeof strings, sheet, sizeof sheet);
+    return p;
+}
+
+static uint64_t answer_for(const request *asked)
+{
+    profile p = profile_of(asked);
+
+    return xkbrules_resolve(rules, rules_len, p.in[MODEL], p.len[MODEL], p.in[LAYOUTS], p.len[LAYOUTS], p.in[VARIANTS], p.len[VARIANTS],
+                            p.in[OPTIONS], p.len[OPTIONS], strings, sizeof strings, sheet, sizeof sheet);
 }
 
 static const char *component(unsigned number, size_t *len)
@@ -283,16 +304,65 @@ static void print_keymap(void)
     puts("};");
 }
 
+/* -- Cards -- */
+
+/* The card of what was resolved. There is room for every card, so 11 says that a text is too long for one. */
+static int write_card(const request *asked)
+{
+    profile p = profile_of(asked);
+    uint64_t answer = xkbrules_card_write(p.in[MODEL], p.len[MODEL], p.in[LAYOUTS], p.len[LAYOUTS], p.in[VARIANTS], p.len[VARIANTS],
+                                          p.in[OPTIONS], p.len[OPTIONS], strings, sizeof strings, sheet, sizeof sheet, card, sizeof card);
+
+    if (xkbrules_number(answer) != XKBRULES_ACCEPTED) {
+        fputs("xkbrules: ", stderr);
+        put_word(name_of(asked->file));
+        fprintf(stderr, ": refused %u: text over 65,535 bytes, which no card holds\n", xkbrules_number(answer));
+        return REFUSED;
+    }
+    fwrite(card, 1, (size_t)answer, stdout);
+    return printed();
+}
+
+/* A card may hold any bytes, so they are shown as those of a file are. */
+static void print_shown(const char *name, const char *s, size_t len)
+{
+    printf("%s=", name);
+    put_safe(stdout, s, len, 0);
+    putchar('\n');
+}
+
+static int show_card(const request *asked)
+{
+    uint8_t lengths[XKBRULES_CARD_SHEET];
+    const char *at = (const char *)strings;
+    uint64_t answer = xkbrules_card_read(card, card_len, strings, sizeof strings, lengths, sizeof lengths);
+
+    if (xkbrules_number(answer) != XKBRULES_ACCEPTED)
+        return refused(asked, answer);
+    for (size_t i = 0; i < TEXTS; i++) {
+        size_t len = xkbrules_sheet_length(lengths, i);
+        print_shown(texts[i].name, at, len);
+        at += len;
+    }
+    for (unsigned i = XKBRULES_KEYCODES; i <= XKBRULES_GEOMETRY; i++) {
+        size_t room = sizeof strings - (size_t)(at - (const char *)strings);
+        uint64_t c = xkbrules_component((const uint8_t *)at, room, lengths + 4 * TEXTS, XKBRULES_SHEET, i);
+        print_shown(components[i], at + xkbrules_start(c), xkbrules_length(c));
+    }
+    return printed();
+}
+
 /* -- The command -- */
 
-static int read_rules(const char *file)
+/* At most n bytes of a file, or of standard input. */
+static int read_file(const char *file, uint8_t *into, size_t n, size_t *len)
 {
     FILE *from = strcmp(file, "-") == 0 ? stdin : fopen(file, "rb");
     int error = 0;
 
     if (from == NULL)
         return failed(file, strerror(errno));
-    rules_len = fread(rules, 1, sizeof rules, from);
+    *len = fread(into, 1, n, from);
     if (ferror(from))
         error = errno;
     if (from != stdin)
@@ -314,6 +384,8 @@ static int answered(const request *asked)
         return refused(asked, answer);
     if (is_command(asked, "check"))
         return GOOD;
+    if (is_command(asked, "card"))
+        return write_card(asked);
     if (asked->keymap)
         print_keymap();
     else
@@ -440,21 +512,24 @@ static int take_all(request *asked, char **argv)
 /* What take_all can't see before the end; missing texts become empty ones. */
 static int complete(request *asked)
 {
-    int profile = asked->keymap;
+    int given = asked->keymap, shows;
 
     if (asked->command == NULL)
-        return misused(NULL, "check or resolve is missing");
-    if (!is_command(asked, "check") && !is_command(asked, "resolve"))
-        return misused(asked->command, "neither check nor resolve");
+        return misused(NULL, "check, resolve, card or show-card is missing");
+    shows = is_command(asked, "show-card");
+    if (!is_command(asked, "check") && !is_command(asked, "resolve") && !is_command(asked, "card") && !shows)
+        return misused(asked->command, "not check, resolve, card or show-card");
     if (asked->file == NULL)
-        return misused(asked->command, "FILE is missing, a rules file or - for standard input");
+        return misused(asked->command, shows ? "CARD is missing, a card or - for standard input" : "FILE is missing, a rules file or - for standard input");
     for (int i = 0; i < TEXTS; i++) {
-        profile = profile || asked->texts[i] != NULL;
+        given = given || asked->texts[i] != NULL;
         if (asked->texts[i] == NULL)
             asked->texts[i] = "";
     }
-    if (profile && is_command(asked, "check"))
-        return misused("check", "takes no profile and no --keymap; resolve does");
+    if (given && (is_command(asked, "check") || shows))
+        return misused(asked->command, "takes no profile and no --keymap; resolve does");
+    if (asked->keymap && is_command(asked, "card"))
+        return misused("card", "takes no --keymap; resolve does");
     return GOOD;
 }
 
@@ -468,11 +543,14 @@ static int run(request *asked, char **argv)
     }
     if (status == GOOD)
         status = complete(asked);
-    if (status == GOOD)
-        status = read_rules(asked->file);
-    if (status == GOOD)
-        status = answered(asked);
-    return status;
+    if (status != GOOD)
+        return status;
+    if (is_command(asked, "show-card")) {
+        status = read_file(asked->file, card, sizeof card, &card_len);
+        return status == GOOD ? show_card(asked) : status;
+    }
+    status = read_file(asked->file, rules, sizeof rules, &rules_len);
+    return status == GOOD ? answered(asked) : status;
 }
 
 int main(int argc, char **argv)

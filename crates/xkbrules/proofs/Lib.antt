@@ -2,3 +2,5 @@ pub mod Sheet
 pub mod OneByOne
 pub mod Entry
 pub mod Ways
+pub mod CardWays
+pub mod Desk

@@ -1,4 +1,4 @@
--- The ten lengths written into a sheet one by one, and read from it one by one.
+-- Lengths written into a sheet one by one, k of them, and ten read from it one by one.
 use Prim.Native.Nat.{ℕ, zero, suc, _+_, _*_, _≤_, _<_}
 use native.Mathlib.Nat.{add-zero}
 use native.Mathlib.Numerals.{add-one, towards-suc}
@@ -27,10 +27,10 @@ module _ (s : Text) (ns : List ℕ) where
   put-none = refl
 
   -- one number more
-  pub put-more : (i x : ℕ) (r r′ : Text) → length ns ≡ 10 → i < 10 → x ≡ getD ns i 0 → r ≡ putTo s ns i →
+  pub put-more : (k i x : ℕ) (r r′ : Text) → length ns ≡ k → i < k → x ≡ getD ns i 0 → r ≡ putTo s ns i →
       r′ ≡ take (4 * i) r ++ (littleEndian x ++ drop (4 * i + 4) r) → r′ ≡ putTo s ns (i + 1)
   unfolding putTo concatMap
-  put-more i x r r′ ten h v e p =
+  put-more k i x r r′ all h v e p =
       let w = concatMap littleEndian (take i ns) in
       let l : length w ≡ 4 * i = written-length (take i ns) ∙ ap (λ n. 4 * n) (length-take-le i ns (omega arith)) in
       let t : take (4 * i) r ≡ w = ap (take (4 * i)) e ∙ take-at w (drop (4 * i) s) (4 * i) l in
@@ -43,9 +43,9 @@ module _ (s : Text) (ns : List ℕ) where
       ∙ concat-append littleEndian (take i ns) (getD ns i 0 ∷ []) ∙ rw (v, append-nil (littleEndian (getD ns i 0))) in
       p ∙ rw (t, d, m, append-assoc w (littleEndian x) (drop (4 * (i + 1)) s))
 
-  pub put-all : (i : ℕ) (r : Text) → length ns ≡ 10 → i ≤ 10 → 10 ≤ i → r ≡ putTo s ns i → r ≡ concatMap littleEndian ns ++ drop 40 s
+  pub put-all : (k i : ℕ) (r : Text) → length ns ≡ k → i ≤ k → k ≤ i → r ≡ putTo s ns i → r ≡ concatMap littleEndian ns ++ drop (4 * k) s
   unfolding putTo
-  put-all i r ten h k e = let z : i ≡ 10 = omega arith in e ∙ rw (z, take-all 10 ns (omega arith))
+  put-all k i r all h l e = let z : i ≡ k = omega arith in e ∙ rw (z, take-all k ns (omega arith))
 
 -- the numbers up to one more
 numbers-more : (s : Text) (a n : ℕ) → numbersFrom s a (suc n) ≡ numbersFrom s a n ++ (numberAt s (a + 4 * n) ∷ [])

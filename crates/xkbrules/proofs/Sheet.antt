@@ -42,7 +42,7 @@ unfolding numbersFrom
 numbers-behind x s i zero = refl
 numbers-behind x s i (suc n) = rw (number-behind x s i, numbers-behind x s (i + 4) n)
 
-numbers-back : (ns : List ℕ) (s : Text) → sum ns < 2 ^ 32 → numbersFrom (concatMap littleEndian ns ++ s) 0 (length ns) ≡ ns
+pub numbers-back : (ns : List ℕ) (s : Text) → sum ns < 2 ^ 32 → numbersFrom (concatMap littleEndian ns ++ s) 0 (length ns) ≡ ns
 unfolding numbersFrom concatMap sum
 numbers-back [] s h = refl
 numbers-back (x ∷ ns) s h =
@@ -106,7 +106,7 @@ pub code-sheet : (room : ℕ) (s : Text) (c : ℕ) → c ≤ 4 → length s < sh
 unfolding componentCode
 code-sheet room s c h k = rw (le-ltb 4 c h, lt-ltb (length s) sheetLength k)
 
-numbers-length : (s : Text) (i n : ℕ) → length (numbersFrom s i n) ≡ n
+pub numbers-length : (s : Text) (i n : ℕ) → length (numbersFrom s i n) ≡ n
 unfolding numbersFrom
 numbers-length s i zero = refl
 numbers-length s i (suc n) = ap suc (numbers-length s (i + 4) n)

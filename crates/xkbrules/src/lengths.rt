@@ -5,6 +5,7 @@ ghost use Prim.Native.Nat.{_+_, _≤_, _<_};
 ghost use lib.ListN.{length, take, drop};
 ghost use Rattle.text.specs.Bytes.{concatMap};
 ghost use Rattle.xkbrules.specs.Sheet.{sheetLength, littleEndian, numberAt, lengthsIn};
+ghost use Rattle.xkbrules.specs.Cards.{cardSheetLength};
 
 fn wide(x: u8) -> u32
     ensures { λ r. ⌜ (r ≡ x) × (r < 256) ⌝ }
@@ -29,6 +30,18 @@ pub fn put_lengths(sheet: &mut [u8], lengths: [u32; 10])
 {
     let mut i: usize = 0;
     while i < 10 {
+        put_number(sheet, 4 * i, lengths[i]);
+        i += 1;
+    }
+}
+
+// Fourteen lengths into the first 56 bytes.
+pub fn put_card_lengths(sheet: &mut [u8], lengths: [u32; 14])
+    requires { ⌜ cardSheetLength ≤ length (now sheet) ⌝ }
+    ensures { λ _. ⌜ now (sheet .exit) ≡ concatMap littleEndian lengths ++ drop cardSheetLength (now (sheet .entry)) ⌝ }
+{
+    let mut i: usize = 0;
+    while i < 14 {
         put_number(sheet, 4 * i, lengths[i]);
         i += 1;
     }

@@ -11,6 +11,7 @@ use lengths::put_lengths;
 use resolver::resolving::measure;
 use resolver::resolving::resolve;
 
+mod cards;
 mod lengths;
 
 // A refusal's number and place in one number: no place is over 65,537, a line more than the longest file has bytes.

@@ -13,12 +13,12 @@ const GUARD: usize = 24;
 
 /// A buffer filled with a pattern, of which the middle is lent.
 #[derive(Clone)]
-struct Lent {
+pub struct Lent {
     bytes: Vec<u8>,
 }
 
 impl Lent {
-    fn new(length: usize, pattern: u8) -> Lent {
+    pub fn new(length: usize, pattern: u8) -> Lent {
         let fill = |i: usize| (i as u8).wrapping_mul(29).wrapping_add(7) ^ pattern;
         Lent {
             bytes: (0..length + 2 * GUARD).map(fill).collect(),
@@ -29,17 +29,17 @@ impl Lent {
         GUARD..self.bytes.len() - GUARD
     }
 
-    fn lent(&self) -> &[u8] {
+    pub fn lent(&self) -> &[u8] {
         &self.bytes[self.range()]
     }
 
-    fn lend(&mut self) -> &mut [u8] {
+    pub fn lend(&mut self) -> &mut [u8] {
         let range = self.range();
         &mut self.bytes[range]
     }
 
     /// The buffer with these first bytes put into its lent part.
-    fn put(&self, first: &[u8]) -> Lent {
+    pub fn put(&self, first: &[u8]) -> Lent {
         let mut put = self.clone();
         put.lend()[..first.len()].copy_from_slice(first);
         put
@@ -47,7 +47,7 @@ impl Lent {
 
     /// The first lent position that differs; positions before or behind the
     /// lent part count on in both directions.
-    fn difference(&self, other: &Lent) -> Option<isize> {
+    pub fn difference(&self, other: &Lent) -> Option<isize> {
         if self.bytes == other.bytes {
             return None;
         }

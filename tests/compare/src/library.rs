@@ -27,6 +27,32 @@ extern "C" {
         sheet_len: usize,
         component: u64,
     ) -> u64;
+
+    fn xkbrules_card_write(
+        model: *const u8,
+        model_len: usize,
+        layouts: *const u8,
+        layouts_len: usize,
+        variants: *const u8,
+        variants_len: usize,
+        options: *const u8,
+        options_len: usize,
+        texts: *const u8,
+        texts_len: usize,
+        sheet: *const u8,
+        sheet_len: usize,
+        card: *mut u8,
+        card_len: usize,
+    ) -> u64;
+
+    fn xkbrules_card_read(
+        card: *const u8,
+        card_len: usize,
+        texts: *mut u8,
+        texts_len: usize,
+        sheet: *mut u8,
+        sheet_len: usize,
+    ) -> u64;
 }
 
 /// The answer's number and place.
@@ -82,4 +108,45 @@ pub fn component(texts: &mut [u8], sheet: &mut [u8], component: u64) -> (u64, u6
         )
     };
     (packed >> 32, packed & 0xffff_ffff)
+}
+
+/// What the writing of a card returns: its length, or a refusal's number times
+/// 2^48 plus its place.
+pub fn card_write(profile: [&[u8]; 4], texts: &[u8], sheet: &[u8], card: &mut [u8]) -> u64 {
+    let [model, layouts, variants, options] = profile;
+    // SAFETY: every slice is lent with its own length, and `card`, the only one
+    // that is written, overlaps no other.
+    unsafe {
+        xkbrules_card_write(
+            model.as_ptr(),
+            model.len(),
+            layouts.as_ptr(),
+            layouts.len(),
+            variants.as_ptr(),
+            variants.len(),
+            options.as_ptr(),
+            options.len(),
+            texts.as_ptr(),
+            texts.len(),
+            sheet.as_ptr(),
+            sheet.len(),
+            card.as_mut_ptr(),
+            card.len(),
+        )
+    }
+}
+
+/// What the reading of a card returns: 0, or a refusal's number times 2^48.
+pub fn card_read(card: &[u8], texts: &mut [u8], sheet: &mut [u8]) -> u64 {
+    // SAFETY: every slice is lent with its own length, and no two overlap.
+    unsafe {
+        xkbrules_card_read(
+            card.as_ptr(),
+            card.len(),
+            texts.as_mut_ptr(),
+            texts.len(),
+            sheet.as_mut_ptr(),
+            sheet.len(),
+        )
+    }
 }

@@ -8,6 +8,7 @@
 //!
 //! The exit status is 1 on any disagreement.
 
+mod cards;
 mod case;
 mod check;
 mod damage;
@@ -85,6 +86,7 @@ fn compare(settings: &Settings) -> Result<u64, String> {
         parts.push((name, run_list(name, &list)));
     }
     let laws = laws::run(seed, count.div_ceil(8));
+    let (cards, cards_broken) = cards::run(seed, count.div_ceil(4))?;
     print_counts(
         "cases",
         parts.iter().map(|(name, part)| (*name, part.cases)),
@@ -102,11 +104,14 @@ fn compare(settings: &Settings) -> Result<u64, String> {
     if !never.is_empty() {
         return Err(format!("never answered: {}", never.join(", ")));
     }
+    let numbers: Vec<String> = cards.answers.keys().map(u64::to_string).collect();
+    let answers = numbers.iter().map(String::as_str);
+    print_counts("cards", answers.zip(cards.answers.values().copied()));
     let broken: u64 = laws.iter().map(|law| law.broken).sum();
-    let disagreements = all.failures.len() as u64 + broken;
+    let disagreements = all.failures.len() as u64 + broken + cards_broken;
     println!(
         "compare: {} cases, {disagreements} disagreements, {} seconds",
-        all.cases + laws.iter().map(|law| law.cases).sum::<u64>(),
+        all.cases + cards.cases + laws.iter().map(|law| law.cases).sum::<u64>(),
         start.elapsed().as_secs()
     );
     Ok(disagreements)

@@ -2,6 +2,7 @@
 //! sets, and then walks the sets for one profile. Each component is kept
 //! twice: as one string under the stepwise update, and as base and additions.
 
+pub mod cards;
 mod lines;
 mod values;
 
