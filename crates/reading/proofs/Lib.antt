@@ -12,3 +12,4 @@ pub mod SetHeads
 pub mod GroupHeads
 pub mod Parts
 pub mod FileReads
+pub mod ProfileReads

@@ -8,3 +8,4 @@ pub mod States
 pub mod Steps
 pub mod Heads
 pub mod Files
+pub mod Profiled

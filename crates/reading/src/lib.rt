@@ -5,6 +5,7 @@ pub mod heading;
 pub mod keep;
 pub mod left;
 pub mod opening;
+pub mod profiled;
 pub mod seek;
 pub mod states;
 
