@@ -19,22 +19,39 @@ field-end-requires : tie.Need-field-end-requires Inv-loop μ-loop
 field-end-requires c κs = search needs
 
 add-mark-value : tie.Need-add-mark-value Inv-loop μ-loop
-add-mark-value c = omega (arith, c .before .before .before .before .before .before .before .before .pre .0 .high)
+add-mark-value c =
+    let start = c .before .before .before .before .before .before .before .before in
+    omega (arith, start .pre .0 .high)
 
 add-mark-value-2 : tie.Need-add-mark-value-2 Inv-loop μ-loop
-add-mark-value-2 c = omega (arith, c .before .before .before .before .before .before .before .before .pre .0 .high, c .before .before .before .field-end .ensures .high)
+add-mark-value-2 c =
+    let start = c .before .before .before .before .before .before .before .before in
+    let the-field-end = c .before .before .before .field-end in
+    omega (arith, start .pre .0 .high, the-field-end .ensures .high)
 
 mark-value-requires : tie.Need-mark-value-requires Inv-loop μ-loop
-mark-value-requires c κs = (c .before .before .before .before .before .loop .inv .1 .marked .tables, omega (arith, c .before .before .before .field-end .ensures .low), omega (arith, c .before .before .before .before .before .before .before .before .pre .0 .high, c .before .before .before .field-end .ensures .high), omega (arith, c .before .before .before .before .before .loop .inv .1 .marked .few, c .before .before .before .before .before .loop .inv .1 .few, c .before .before .before .before .before .before .before .before .pre .2))
+mark-value-requires c κs =
+    let start = c .before .before .before .before .before .before .before .before in
+    let the-loop = c .before .before .before .before .before .loop in
+    let the-field-end = c .before .before .before .field-end in
+    (the-loop .inv .1 .marked .tables, omega (arith, the-field-end .ensures .low), omega (arith, start .pre .0 .high, the-field-end .ensures .high), omega (arith, the-loop .inv .1 .marked .few, the-loop .inv .1 .few, start .pre .2))
 
 add-start : tie.Need-add-start Inv-loop μ-loop
-add-start c = omega (arith, c .before .before .before .before .field-end .ensures .high)
+add-start c =
+    let the-field-end = c .before .before .before .before .field-end in
+    omega (arith, the-field-end .ensures .high)
 
 loop-less : tie.Need-loop-less Inv-loop μ-loop
-loop-less c = omega (arith, c .before .before .before .before .field-end .ensures .low)
+loop-less c =
+    let the-field-end = c .before .before .before .before .field-end in
+    omega (arith, the-field-end .ensures .low)
 
 loop-again : tie.Need-loop-again Inv-loop μ-loop
-loop-again c = (omega (arith, c .before .before .before .before .field-end .ensures .high), options-more _ _ _ _ _ _ _ _ _ _ _ (c .before .before .before .before .before .before .loop .inv .1) _ _ (c .before .before .before .before .before .before .before .before .before .pre .0) (c .before .before .before .before .field-end .ensures) _ _ _ _ (c .mark-value .ensures))
+loop-again c =
+    let start = c .before .before .before .before .before .before .before .before .before in
+    let the-loop = c .before .before .before .before .before .before .loop in
+    let the-field-end = c .before .before .before .before .field-end in
+    (omega (arith, the-field-end .ensures .high), options-more _ _ _ _ _ _ _ _ _ _ _ (the-loop .inv .1) _ _ (start .pre .0) (the-field-end .ensures) _ _ _ _ (c .mark-value .ensures))
 
 returns : tie.Need-returns Inv-loop μ-loop
 returns c = options-done _ _ _ _ _ _ _ _ _ _ _ (c .before .loop .inv .1) (c .loop-test .left)

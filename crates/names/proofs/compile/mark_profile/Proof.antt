@@ -8,22 +8,40 @@ some-set-requires : tie.Need-some-set-requires
 some-set-requires c κs = (c .before .before .pre .0 .size, omega arith)
 
 some-set-requires-2 : tie.Need-some-set-requires-2
-some-set-requires-2 c κs = (c .before .before .before .pre .0 .size, omega arith)
+some-set-requires-2 c κs =
+    let start = c .before .before .before in
+    (start .pre .0 .size, omega arith)
 
 add-begin : tie.Need-add-begin
-add-begin c = omega (arith, c .before .before .before .before .before .before .before .pre .1 .high)
+add-begin c =
+    let start = c .before .before .before .before .before .before .before in
+    omega (arith, start .pre .1 .high)
 
 begin-requires : tie.Need-begin-requires
-begin-requires c κs = (c .before .before .before .before .before .before .before .pre .2 .high, lies-one _ _ _ (c .before .before .before .before .before .before .before .pre .2), c .before .before .before .before .before .before .before .pre .4)
+begin-requires c κs =
+    let start = c .before .before .before .before .before .before .before in
+    (start .pre .2 .high, lies-one _ _ _ (start .pre .2), start .pre .4)
 
 mark-values-requires : tie.Need-mark-values-requires
-mark-values-requires c κs = (c .before .before .before .before .before .before .before .before .before .before .before .pre .0, begun-tables _ _ _ _ _ _ (c .before .before .before .begin .ensures), omega arith)
+mark-values-requires c κs =
+    let start = c .before .before .before .before .before .before .before .before .before .before .before in
+    let the-begin = c .before .before .before .begin in
+    (start .pre .0, begun-tables _ _ _ _ _ _ (the-begin .ensures), omega arith)
 
 mark-options-requires : tie.Need-mark-options-requires
-mark-options-requires c κs = (c .before .before .before .before .before .before .before .before .before .before .before .before .before .before .before .pre .1, c .before .before .before .mark-values .ensures .tables, omega (arith, c .before .before .before .mark-values .ensures .few, c .before .before .before .before .before .before .before .before .before .before .before .before .before .before .before .pre .3))
+mark-options-requires c κs =
+    let start = c .before .before .before .before .before .before .before .before .before .before .before .before .before .before .before in
+    let the-mark-values = c .before .before .before .mark-values in
+    (start .pre .1, the-mark-values .ensures .tables, omega (arith, the-mark-values .ensures .few, start .pre .3))
 
 returns : tie.Need-returns
-returns c = (begun-profile _ _ _ _ _ _ _ _ _ _ _ _ _ _ _ _ (c .before .before .before .before .before .before .before .before .before .before .before .before .before .before .before .before .pre .0) (c .before .before .before .before .before .before .before .before .before .before .before .before .before .some-set .ensures) (c .before .before .before .before .before .before .before .before .before .before .before .before .some-set2 .ensures) (c .before .before .before .before .before .before .before .before .begin .ensures) (c .before .before .before .before .mark-values .ensures) (c .mark-options .ensures), omega (arith, c .before .before .before .before .mark-values .ensures .few, c .mark-options .ensures .few, c .before .before .before .before .before .before .before .before .before .before .before .before .before .before .before .before .pre .3))
+returns c =
+    let start = c .before .before .before .before .before .before .before .before .before .before .before .before .before .before .before .before in
+    let the-some-set = c .before .before .before .before .before .before .before .before .before .before .before .before .before .some-set in
+    let the-some-set2 = c .before .before .before .before .before .before .before .before .before .before .before .before .some-set2 in
+    let the-begin = c .before .before .before .before .before .before .before .before .begin in
+    let the-mark-values = c .before .before .before .before .mark-values in
+    (begun-profile _ _ _ _ _ _ _ _ _ _ _ _ _ _ _ _ (start .pre .0) (the-some-set .ensures) (the-some-set2 .ensures) (the-begin .ensures) (the-mark-values .ensures) (c .mark-options .ensures), omega (arith, the-mark-values .ensures .few, c .mark-options .ensures .few, start .pre .3))
 
 pub mark-profile-spec : {M : Type 1} → statement M
 mark-profile-spec =

@@ -42,7 +42,11 @@ value-row-requires : tie.Need-value-row-requires Inv-loop μ-loop
 value-row-requires c κs = search needs
 
 mark-value-requires : tie.Need-mark-value-requires Inv-loop μ-loop
-mark-value-requires c κs = let p = c .before .before .before .before .before .before .before .before .before .pre .0 .place (c .before .before .before .before .before .before .before .loop .j) (c .before .before .before .before .before .before .loop-test .taken) in (c .before .before .before .before .before .before .before .loop .inv .1 .tables, p .low, p .high, omega (arith, c .before .before .before .before .before .before .before .loop .inv .1 .few, c .before .before .before .before .before .before .before .before .before .pre .2, c .before .before .before .before .before .before .loop-test .taken))
+mark-value-requires c κs =
+    let start = c .before .before .before .before .before .before .before .before .before in
+    let the-loop = c .before .before .before .before .before .before .before .loop in
+    let the-loop-test = c .before .before .before .before .before .before .loop-test in
+    let p = start .pre .0 .place (the-loop .j) (the-loop-test .taken) in (the-loop .inv .1 .tables, p .low, p .high, omega (arith, the-loop .inv .1 .few, start .pre .2, the-loop-test .taken))
 
 add-j : tie.Need-add-j Inv-loop μ-loop
 add-j c = search needs
@@ -52,10 +56,14 @@ loop-less c = search needs
 
 loop-again : tie.Need-loop-again Inv-loop μ-loop
 unfolding valueAt
-loop-again c = (omega arith, values-more _ _ _ _ _ _ _ _ _ _ _ (c .before .before .before .before .before .before .before .before .loop .inv .1) _ _ _ _ _ (c .before .value-row .ensures) (c .mark-value .ensures))
+loop-again c =
+    let the-loop = c .before .before .before .before .before .before .before .before .loop in
+    (omega arith, values-more _ _ _ _ _ _ _ _ _ _ _ (the-loop .inv .1) _ _ _ _ _ (c .before .value-row .ensures) (c .mark-value .ensures))
 
 returns : tie.Need-returns Inv-loop μ-loop
-returns c = values-end _ _ _ _ _ _ _ _ _ _ _ (c .before .loop .inv .1) (c .before .loop .inv .0) (c .loop-test .left)
+returns c =
+    let the-loop = c .before .loop in
+    values-end _ _ _ _ _ _ _ _ _ _ _ (the-loop .inv .1) (the-loop .inv .0) (c .loop-test .left)
 
 pub mark-values-spec : {M : Type 1} → statement M
 mark-values-spec =

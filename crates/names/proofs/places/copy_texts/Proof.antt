@@ -34,10 +34,24 @@ add-result : tie.Need-add-result
 add-result c = search needs
 
 same-length : tie.Need-same-length
-same-length c = let p = c .before .before .before .before .before .before .before .before .before .before .before .before .before .before .before .before .before .before .before .before .before .pre in let a = c .before .before .before .before .before .before .before .before .before .before .before .before .before .before .before .before .before .before .before .before .before .args in let g1 = grown-start (a .text .now) (a .model .now) _ (omega (arith, p .0 .model, p .1)) (c .before .before .before .before .before .before .before .before .before .before .before .before .before .before .copy .ensures) in let g2 = grown-more _ _ _ _ (a .layouts .now) _ g1 (omega (arith, p .0 .model, p .0 .layouts, p .1)) (c .before .before .before .before .before .before .before .before .before .before .copy2 .ensures) in let g3 = grown-more _ _ _ _ (a .variants .now) _ g2 (omega (arith, p .0 .model, p .0 .layouts, p .0 .variants, p .1)) (c .before .before .before .before .before .before .copy3 .ensures) in let g4 = grown-more _ _ _ _ (a .options .now) _ g3 (omega (arith, p .0 .model, p .0 .layouts, p .0 .variants, p .0 .options, p .1)) (c .before .before .copy4 .ensures) in let e = grown-end (textsOf (a .model .now) (a .layouts .now) (a .variants .now) (a .options .now)) (a .text .now) _ _ _ _ g4 refl (omega (arith, p .0 .model, p .0 .layouts, p .0 .variants, p .0 .options, p .1)) refl in e .size
+same-length c =
+    let start = c .before .before .before .before .before .before .before .before .before .before .before .before .before .before .before .before .before .before .before .before .before in
+    let the-copy = c .before .before .before .before .before .before .before .before .before .before .before .before .before .before .copy in
+    let the-copy2 = c .before .before .before .before .before .before .before .before .before .before .copy2 in
+    let the-copy3 = c .before .before .before .before .before .before .copy3 in
+    let p = start .pre in let a = start .args in let g1 = grown-start (a .text .now) (a .model .now) _ (omega (arith, p .0 .model, p .1)) (the-copy .ensures) in let g2 = grown-more _ _ _ _ (a .layouts .now) _ g1 (omega (arith, p .0 .model, p .0 .layouts, p .1)) (the-copy2 .ensures) in let g3 = grown-more _ _ _ _
+    (a .variants .now) _ g2 (omega (arith, p .0 .model, p .0 .layouts, p .0 .variants, p .1)) (the-copy3 .ensures) in let g4 = grown-more _ _ _ _ (a .options .now) _ g3 (omega (arith, p .0 .model, p .0 .layouts, p .0 .variants, p .0 .options, p .1)) (c .before .before .copy4 .ensures) in let e = grown-end
+    (textsOf (a .model .now) (a .layouts .now) (a .variants .now) (a .options .now)) (a .text .now) _ _ _ _ g4 refl (omega (arith, p .0 .model, p .0 .layouts, p .0 .variants, p .0 .options, p .1)) refl in e .size
 
 returns : tie.Need-returns
-returns c = let p = c .before .before .before .before .before .before .before .before .before .before .before .before .before .before .before .before .before .before .before .before .before .pre in let a = c .before .before .before .before .before .before .before .before .before .before .before .before .before .before .before .before .before .before .before .before .before .args in let g1 = grown-start (a .text .now) (a .model .now) _ (omega (arith, p .0 .model, p .1)) (c .before .before .before .before .before .before .before .before .before .before .before .before .before .before .copy .ensures) in let g2 = grown-more _ _ _ _ (a .layouts .now) _ g1 (omega (arith, p .0 .model, p .0 .layouts, p .1)) (c .before .before .before .before .before .before .before .before .before .before .copy2 .ensures) in let g3 = grown-more _ _ _ _ (a .variants .now) _ g2 (omega (arith, p .0 .model, p .0 .layouts, p .0 .variants, p .1)) (c .before .before .before .before .before .before .copy3 .ensures) in let g4 = grown-more _ _ _ _ (a .options .now) _ g3 (omega (arith, p .0 .model, p .0 .layouts, p .0 .variants, p .0 .options, p .1)) (c .before .before .copy4 .ensures) in let e = grown-end (textsOf (a .model .now) (a .layouts .now) (a .variants .now) (a .options .now)) (a .text .now) _ _ _ _ g4 refl (omega (arith, p .0 .model, p .0 .layouts, p .0 .variants, p .0 .options, p .1)) refl in e
+returns c =
+    let start = c .before .before .before .before .before .before .before .before .before .before .before .before .before .before .before .before .before .before .before .before .before in
+    let the-copy = c .before .before .before .before .before .before .before .before .before .before .before .before .before .before .copy in
+    let the-copy2 = c .before .before .before .before .before .before .before .before .before .before .copy2 in
+    let the-copy3 = c .before .before .before .before .before .before .copy3 in
+    let p = start .pre in let a = start .args in let g1 = grown-start (a .text .now) (a .model .now) _ (omega (arith, p .0 .model, p .1)) (the-copy .ensures) in let g2 = grown-more _ _ _ _ (a .layouts .now) _ g1 (omega (arith, p .0 .model, p .0 .layouts, p .1)) (the-copy2 .ensures) in let g3 = grown-more _ _ _ _
+    (a .variants .now) _ g2 (omega (arith, p .0 .model, p .0 .layouts, p .0 .variants, p .1)) (the-copy3 .ensures) in let g4 = grown-more _ _ _ _ (a .options .now) _ g3 (omega (arith, p .0 .model, p .0 .layouts, p .0 .variants, p .0 .options, p .1)) (c .before .before .copy4 .ensures) in let e = grown-end
+    (textsOf (a .model .now) (a .layouts .now) (a .variants .now) (a .options .now)) (a .text .now) _ _ _ _ g4 refl (omega (arith, p .0 .model, p .0 .layouts, p .0 .variants, p .0 .options, p .1)) refl in e
 
 pub copy-texts-spec : {M : Type 1} → statement M
 copy-texts-spec =

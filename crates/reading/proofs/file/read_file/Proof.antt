@@ -32,7 +32,8 @@ at-start-requires c κs = search needs
 loop-holds : tie.Need-loop-holds Inv-loop μ-loop
 unfolding entries
 loop-holds c =
-    let p = c .before .before .before .before .before .pre in
+    let start = c .before .before .before .before .before in
+    let p = start .pre in
     (reads-first _ _ _ _ _ _ _ _ _ _ (p .0) (p .1) (p .2) (p .3) (p .4) _ (search needs) _ (c .at-start .ensures), table-right)
 
 -- src/file.rt:223:13
@@ -42,16 +43,28 @@ slice-aggregate-read-on c = search needs
 -- src/file.rt:213:9
 read-on-requires : tie.Need-read-on-requires Inv-loop μ-loop
 read-on-requires c κs =
-    let p = c .before .before .before .before .before .before .before .before .before .before .before .before .before .before .pre in
-    (record { high = omega arith; few = omega arith; table = c .before .before .before .before .before .before .before .before .loop .inv .1; fenced = c .before .before .before .before .before .before .before .before .before .before .fence-of .ensures }, p .0, omega (arith, p .1), c .before .before .before .before .before .before .before .before .loop .inv .0 .sound (c .before .before .before .before .before .before .before .loop-test .taken))
+    let start = c .before .before .before .before .before .before .before .before .before .before .before .before .before .before in
+    let the-fence-of = c .before .before .before .before .before .before .before .before .before .before .fence-of in
+    let the-loop = c .before .before .before .before .before .before .before .before .loop in
+    let the-loop-test = c .before .before .before .before .before .before .before .loop-test in
+    let p = start .pre in
+    (record { high = omega arith; few = omega arith; table = the-loop .inv .1; fenced = the-fence-of .ensures }, p .0, omega (arith, p .1), the-loop .inv .0 .sound (the-loop-test .taken))
 
 -- src/file.rt:212:5
 loop-less : tie.Need-loop-less Inv-loop μ-loop
-loop-less c = reads-less _ _ _ _ _ _ _ _ _ _ _ _ _ _ _ _ _ (c .before .before .before .before .before .before .before .before .before .before .before .before .before .before .loop .inv .0) (c .before .before .before .before .before .before .before .before .before .before .before .before .before .loop-test .taken) _ _ _ _ _ _ _ (c .before .before .before .before .before .read-on .ensures)
+loop-less c =
+    let the-loop = c .before .before .before .before .before .before .before .before .before .before .before .before .before .before .loop in
+    let the-loop-test = c .before .before .before .before .before .before .before .before .before .before .before .before .before .loop-test in
+    let the-read-on = c .before .before .before .before .before .read-on in
+    reads-less _ _ _ _ _ _ _ _ _ _ _ _ _ _ _ _ _ (the-loop .inv .0) (the-loop-test .taken) _ _ _ _ _ _ _ (the-read-on .ensures)
 
 -- src/file.rt:212:5
 loop-again : tie.Need-loop-again Inv-loop μ-loop
-loop-again c = (reads-more _ _ _ _ _ _ _ _ _ _ _ _ _ _ _ _ _ (c .before .before .before .before .before .before .before .before .before .before .before .before .before .before .loop .inv .0) (c .before .before .before .before .before .before .before .before .before .before .before .before .before .loop-test .taken) _ _ _ _ _ _ _ (c .before .before .before .before .before .read-on .ensures), c .before .before .before .before .before .before .before .before .before .before .before .before .before .before .loop .inv .1)
+loop-again c =
+    let the-loop = c .before .before .before .before .before .before .before .before .before .before .before .before .before .before .loop in
+    let the-loop-test = c .before .before .before .before .before .before .before .before .before .before .before .before .before .loop-test in
+    let the-read-on = c .before .before .before .before .before .read-on in
+    (reads-more _ _ _ _ _ _ _ _ _ _ _ _ _ _ _ _ _ (the-loop .inv .0) (the-loop-test .taken) _ _ _ _ _ _ _ (the-read-on .ensures), the-loop .inv .1)
 
 -- src/file.rt:189:1
 same-length : tie.Need-same-length Inv-loop μ-loop
@@ -63,7 +76,9 @@ same-length-2 c = search (needs, c .before .before .loop .inv .0 .buffer)
 
 -- src/file.rt:189:1
 returns : tie.Need-returns Inv-loop μ-loop
-returns c = reads-done _ _ _ _ _ _ _ _ _ _ _ _ _ (c .before .before .before .at-start .ensures) (reads-end _ _ _ _ _ _ _ _ _ _ _ _ _ _ _ _ _ (c .before .before .loop .inv .0) (c .before .loop-test .left))
+returns c =
+    let the-at-start = c .before .before .before .at-start in
+    reads-done _ _ _ _ _ _ _ _ _ _ _ _ _ (the-at-start .ensures) (reads-end _ _ _ _ _ _ _ _ _ _ _ _ _ _ _ _ _ (c .before .before .loop .inv .0) (c .before .loop-test .left))
 
 pub read-file-spec : {M : Type 1} → statement M
 read-file-spec =

@@ -35,9 +35,10 @@ part-seek-rule-end c = search needs
 -- src/file.rt:45:9
 seek-rule-requires : tie.Need-seek-rule-requires
 seek-rule-requires c κs =
-    let p = c .before .before .before .before .before .before .before .before .before .before .before .before .pre in
+    let start = c .before .before .before .before .before .before .before .before .before .before .before .before in
+    let p = start .pre in
     let v = p .3 in
-    (record { high = v .high; few = v .few; table = p .0 .table; fenced = p .0 .fenced }, named-whole (c .before .before .before .before .before .before .before .before .before .before .before .before .args .r .used) (c .before .before .before .before .before .before .before .before .before .before .before .before .args .text .now) _ _ (v .tables .named), v .set .sized, v .set .left, v .set .right, v .set .heading)
+    (record { high = v .high; few = v .few; table = p .0 .table; fenced = p .0 .fenced }, named-whole (start .args .r .used) (start .args .text .now) _ _ (v .tables .named), v .set .sized, v .set .left, v .set .right, v .set .heading)
 
 -- src/file.rt:60:13
 enum-known-x : tie.Need-enum-known-x
@@ -65,13 +66,26 @@ part-fire-kept-start c = search needs
 
 -- src/file.rt:69:53
 part-fire-kept-end : tie.Need-part-fire-kept-end
-part-fire-kept-end c = omega (arith, c .before .before .before .before .before .before .before .before .before .before .before .before .before .before .before .before .before .before .before .before .before .pre .3 .used)
+part-fire-kept-end c =
+    let start = c .before .before .before .before .before .before .before .before .before .before .before .before .before .before .before .before .before .before .before .before .before in
+    omega (arith, start .pre .3 .used)
 
 -- src/file.rt:69:21
 fire-kept-requires : tie.Need-fire-kept-requires
 fire-kept-requires c κs =
-    let p = c .before .before .before .before .before .before .before .before .before .before .before .before .before .before .before .before .before .before .before .before .before .before .before .before .pre in
-    (p .0, sized-as _ _ (c .before .before .before .before .before .wanting .ensures) (p .3 .set .sized), places-as _ _ _ _ (c .before .before .before .before .before .wanting .ensures) (kept-places _ _ _ _ _ _ _ _ _ _ (c .before .before .before .before .before .before .before .before .before .before .before .before .before .before .before .before .before .before .before .before .before .before .before .before .pre .3) _ _ _ _ (sought-as (c .before .before .before .before .before .before .before .before .before .before .before .before .before .before .before .before .before .before .before .before .before .before .before .before .args .r .used) (c .before .before .before .before .before .before .before .before .before .before .before .before .before .before .before .before .before .before .before .before .before .before .before .before .args .text .now) _ _ _ _ _ _ _ _ _ _ (c .before .before .before .before .before .before .before .before .before .x .given .1) (c .before .before .before .before .before .before .before .before .before .before .before .seek-rule .ensures)) _ (c .before .before .before .before .before .before .before .keep-rule .ensures) _ (c .before .before .before .before .before .before .without .ensures)), fires-as (c .before .before .before .before .before .before .before .before .before .before .before .before .before .before .before .before .before .before .before .before .before .before .before .before .args .r .used) (c .before .before .before .before .before .before .before .before .before .before .before .before .before .before .before .before .before .before .before .before .before .before .before .before .args .text .now) _ _ _ _ _ _ (p .3 .fires))
+    let start = c .before .before .before .before .before .before .before .before .before .before .before .before .before .before .before .before .before .before .before .before .before .before .before .before in
+    let the-seek-rule = c .before .before .before .before .before .before .before .before .before .before .before .seek-rule in
+    let the-x = c .before .before .before .before .before .before .before .before .before .x in
+    let the-keep-rule = c .before .before .before .before .before .before .before .keep-rule in
+    let the-without = c .before .before .before .before .before .before .without in
+    let the-wanting = c .before .before .before .before .before .wanting in
+    let p = start .pre in (
+      p .0,
+      sized-as _ _ (the-wanting .ensures) (p .3 .set .sized),
+      places-as _ _ _ _ (the-wanting .ensures) (kept-places _ _ _ _ _ _ _ _ _ _ (start .pre .3) _ _ _ _ (sought-as (start .args .r .used) (start .args .text .now) _ _ _ _ _ _ _ _ _ _ (the-x .given .1) (the-seek-rule .ensures)) _ (the-keep-rule .ensures) _
+          (the-without .ensures)),
+      fires-as (start .args .r .used) (start .args .text .now) _ _ _ _ _ _ (p .3 .fires),
+    )
 
 -- src/file.rt:70:17
 go-on-requires : tie.Need-go-on-requires
@@ -92,10 +106,18 @@ same-length-3 c = search needs
 -- src/file.rt:70:17
 returns : tie.Need-returns
 returns c =
-    let p = c .before .before .before .before .before .before .before .before .before .before .before .before .before .before .before .before .before .before .before .before .before .before .before .before .before .before .before .before .before .before .pre in
-    let f = fired-as (c .before .before .before .before .before .before .before .before .before .before .before .before .before .before .before .before .before .before .before .before .before .before .before .before .before .before .before .before .before .before .args .r .used) (c .before .before .before .before .before .before .before .before .before .before .before .before .before .before .before .before .before .before .before .before .before .before .before .before .before .before .before .before .before .before .args .text .now) _ _ _ _ _ _ _ _ _ _ (c .before .before .before .before .before .before .before .before .before .before .before .wanting .ensures) (c .before .before .before .before .before .fire-kept .ensures .0) in
+    let start = c .before .before .before .before .before .before .before .before .before .before .before .before .before .before .before .before .before .before .before .before .before .before .before .before .before .before .before .before .before .before in
+    let the-seek-rule = c .before .before .before .before .before .before .before .before .before .before .before .before .before .before .before .before .before .seek-rule in
+    let the-x = c .before .before .before .before .before .before .before .before .before .before .before .before .before .before .before .x in
+    let the-keep-rule = c .before .before .before .before .before .before .before .before .before .before .before .before .before .keep-rule in
+    let the-without = c .before .before .before .before .before .before .before .before .before .before .before .before .without in
+    let the-wanting = c .before .before .before .before .before .before .before .before .before .before .before .wanting in
+    let the-if1 = c .before .before .before .before .before .before .before .before .before .before .if1 in
+    let the-fire-kept = c .before .before .before .before .before .fire-kept in
+    let p = start .pre in
+    let f = fired-as (start .args .r .used) (start .args .text .now) _ _ _ _ _ _ _ _ _ _ (the-wanting .ensures) (the-fire-kept .ensures .0) in
     rw (c .go-on .ensures)
-    (step-fire _ _ _ _ _ _ _ _ _ _ (p .3) _ _ _ _ (sought-as (c .before .before .before .before .before .before .before .before .before .before .before .before .before .before .before .before .before .before .before .before .before .before .before .before .before .before .before .before .before .before .args .r .used) (c .before .before .before .before .before .before .before .before .before .before .before .before .before .before .before .before .before .before .before .before .before .before .before .before .before .before .before .before .before .before .args .text .now) _ _ _ _ _ _ _ _ _ _ (c .before .before .before .before .before .before .before .before .before .before .before .before .before .before .before .x .given .1) (c .before .before .before .before .before .before .before .before .before .before .before .before .before .before .before .before .before .seek-rule .ensures)) _ (c .before .before .before .before .before .before .before .before .before .before .before .before .before .keep-rule .ensures) _ (c .before .before .before .before .before .before .before .before .before .before .before .before .without .ensures) (c .before .before .before .before .before .before .before .before .before .before .if1 .taken) _ _ _ (c .before .before .before .before .before .fire-kept .ensures .1) f)
+    (step-fire _ _ _ _ _ _ _ _ _ _ (p .3) _ _ _ _ (sought-as (start .args .r .used) (start .args .text .now) _ _ _ _ _ _ _ _ _ _ (the-x .given .1) (the-seek-rule .ensures)) _ (the-keep-rule .ensures) _ (the-without .ensures) (the-if1 .taken) _ _ _ (the-fire-kept .ensures .1) f)
 
 -- src/file.rt:72:13
 go-on-requires-2 : tie.Need-go-on-requires-2
@@ -120,8 +142,9 @@ part-fire-kept-end-2 c = search needs
 -- src/file.rt:80:17
 fire-kept-requires-2 : tie.Need-fire-kept-requires-2
 fire-kept-requires-2 c κs =
-    let p = c .before .before .before .before .before .before .before .before .before .before .before .before .before .before .before .before .before .before .before .before .pre in
-    (p .0, p .3 .set .sized, p .3 .kept, fires-as (c .before .before .before .before .before .before .before .before .before .before .before .before .before .before .before .before .before .before .before .before .args .r .used) (c .before .before .before .before .before .before .before .before .before .before .before .before .before .before .before .before .before .before .before .before .args .text .now) _ _ _ _ _ _ (p .3 .fires))
+    let start = c .before .before .before .before .before .before .before .before .before .before .before .before .before .before .before .before .before .before .before .before in
+    let p = start .pre in
+    (p .0, p .3 .set .sized, p .3 .kept, fires-as (start .args .r .used) (start .args .text .now) _ _ _ _ _ _ (p .3 .fires))
 
 -- src/file.rt:96:17
 close-requires : tie.Need-close-requires
@@ -130,11 +153,15 @@ close-requires c κs = search needs
 -- src/file.rt:92:13
 read-heading-requires : tie.Need-read-heading-requires
 read-heading-requires c κs =
-    let p = c .before .before .before .before .before .before .before .before .before .before .before .before .before .before .before .before .before .before .before .before .before .before .before .before .before .before .before .before .before .before .pre in
-    let g = sought-as (c .before .before .before .before .before .before .before .before .before .before .before .before .before .before .before .before .before .before .before .before .before .before .before .before .before .before .before .before .before .before .args .r .used) (c .before .before .before .before .before .before .before .before .before .before .before .before .before .before .before .before .before .before .before .before .before .before .before .before .before .before .before .before .before .before .args .text .now) _ _ _ _ _ _ _ _ _ _ (c .before .before .before .before .before .before .before .before .before .before .before .before .before .before .before .x2 .given .1) (c .before .before .before .before .before .before .before .before .before .before .before .before .before .before .before .before .before .seek-rule .ensures) in
-    let e = c .before .before .before .before .close .ensures in (
+    let start = c .before .before .before .before .before .before .before .before .before .before .before .before .before .before .before .before .before .before .before .before .before .before .before .before .before .before .before .before .before .before in
+    let the-seek-rule = c .before .before .before .before .before .before .before .before .before .before .before .before .before .before .before .before .before .seek-rule in
+    let the-x2 = c .before .before .before .before .before .before .before .before .before .before .before .before .before .before .before .x2 in
+    let the-close = c .before .before .before .before .close in
+    let p = start .pre in
+    let g = sought-as (start .args .r .used) (start .args .text .now) _ _ _ _ _ _ _ _ _ _ (the-x2 .given .1) (the-seek-rule .ensures) in
+    let e = the-close .ensures in (
       record { high = g .place .3 .high; few = g .place .3 .few; table = p .0 .table; fenced = p .0 .fenced },
-      heading-at _ (c .before .before .before .before .before .before .before .before .before .before .before .before .before .before .before .before .before .before .before .before .before .before .before .before .before .before .before .before .before .before .args .r) _ _ _ _ _ _ e (g .place .1) (g .place .3),
+      heading-at _ (start .args .r) _ _ _ _ _ _ e (g .place .1) (g .place .3),
       p .1,
       p .2,
       held-at _ _ _ _ _ _ _ _ _ _ _ _ _ _ (p .3) e,
@@ -167,8 +194,9 @@ part-fire-kept-end-3 c = search needs
 -- src/file.rt:107:17
 fire-kept-requires-3 : tie.Need-fire-kept-requires-3
 fire-kept-requires-3 c κs =
-    let p = c .before .before .before .before .before .before .before .before .before .before .before .before .before .before .before .before .before .before .before .pre in
-    (p .0, p .3 .set .sized, p .3 .kept, fires-as (c .before .before .before .before .before .before .before .before .before .before .before .before .before .before .before .before .before .before .before .args .r .used) (c .before .before .before .before .before .before .before .before .before .before .before .before .before .before .before .before .before .before .before .args .text .now) _ _ _ _ _ _ (p .3 .fires))
+    let start = c .before .before .before .before .before .before .before .before .before .before .before .before .before .before .before .before .before .before .before in
+    let p = start .pre in
+    (p .0, p .3 .set .sized, p .3 .kept, fires-as (start .args .r .used) (start .args .text .now) _ _ _ _ _ _ (p .3 .fires))
 
 -- src/file.rt:119:17
 close-requires-2 : tie.Need-close-requires-2
@@ -185,9 +213,14 @@ same-length-4 c = search needs
 -- src/file.rt:23:1
 returns-2 : tie.Need-returns-2
 returns-2 c =
-    let p = c .before .before .before .before .before .before .before .before .before .before .before .before .before .before .before .before .before .before .before .before .before .pre in
+    let start = c .before .before .before .before .before .before .before .before .before .before .before .before .before .before .before .before .before .before .before .before .before in
+    let the-seek-rule = c .before .before .before .before .before .before .before .before .seek-rule in
+    let the-x = c .before .before .before .before .before .before .x in
+    let the-keep-rule = c .before .before .before .before .keep-rule in
+    let the-without = c .before .before .before .without in
+    let p = start .pre in
     rw (c .go-on2 .ensures, c .before .before .wanting .ensures)
-    (step-keep _ _ _ _ _ _ _ _ _ _ (p .3) _ _ _ _ (sought-as (c .before .before .before .before .before .before .before .before .before .before .before .before .before .before .before .before .before .before .before .before .before .args .r .used) (c .before .before .before .before .before .before .before .before .before .before .before .before .before .before .before .before .before .before .before .before .before .args .text .now) _ _ _ _ _ _ _ _ _ _ (c .before .before .before .before .before .before .x .given .1) (c .before .before .before .before .before .before .before .before .seek-rule .ensures)) _ (c .before .before .before .before .keep-rule .ensures) _ (c .before .before .before .without .ensures) (c .before .if1 .left))
+    (step-keep _ _ _ _ _ _ _ _ _ _ (p .3) _ _ _ _ (sought-as (start .args .r .used) (start .args .text .now) _ _ _ _ _ _ _ _ _ _ (the-x .given .1) (the-seek-rule .ensures)) _ (the-keep-rule .ensures) _ (the-without .ensures) (c .before .if1 .left))
 
 -- src/file.rt:23:1
 same-length-5 : tie.Need-same-length-5
@@ -204,12 +237,17 @@ same-length-7 c = search needs
 -- src/file.rt:23:1
 returns-3 : tie.Need-returns-3
 returns-3 c =
-    let p = c .before .before .before .before .before .before .before .before .before .before .before .before .before .before .before .before .before .before .before .before .before .before .before .before .before .before .before .before .before .before .before .before .before .pre in
-    let g = sought-as (c .before .before .before .before .before .before .before .before .before .before .before .before .before .before .before .before .before .before .before .before .before .before .before .before .before .before .before .before .before .before .before .before .before .args .r .used) (c .before .before .before .before .before .before .before .before .before .before .before .before .before .before .before .before .before .before .before .before .before .before .before .before .before .before .before .before .before .before .before .before .before .args .text .now) _ _ _ _ _ _ _ _ _ _ (c .before .before .before .before .before .before .before .before .before .before .before .before .before .before .before .before .before .before .x2 .given .1) (c .before .before .before .before .before .before .before .before .before .before .before .before .before .before .before .before .before .before .before .before .seek-rule .ensures) in
-    let f = fired-as (c .before .before .before .before .before .before .before .before .before .before .before .before .before .before .before .before .before .before .before .before .before .before .before .before .before .before .before .before .before .before .before .before .before .args .r .used) (c .before .before .before .before .before .before .before .before .before .before .before .before .before .before .before .before .before .before .before .before .before .before .before .before .before .before .before .before .before .before .before .before .before .args .text .now) _ _ _ _ _ _ _ _ _ _ refl (c .before .before .before .before .before .before .before .before .before .before .before .before .fire-kept2 .ensures .0) in
-    let l = c .before .before .before .before .before .before .before .before .before .before .before .before .fire-kept2 .ensures .1 in
+    let start = c .before .before .before .before .before .before .before .before .before .before .before .before .before .before .before .before .before .before .before .before .before .before .before .before .before .before .before .before .before .before .before .before .before in
+    let the-seek-rule = c .before .before .before .before .before .before .before .before .before .before .before .before .before .before .before .before .before .before .before .before .seek-rule in
+    let the-x2 = c .before .before .before .before .before .before .before .before .before .before .before .before .before .before .before .before .before .before .x2 in
+    let the-fire-kept2 = c .before .before .before .before .before .before .before .before .before .before .before .before .fire-kept2 in
+    let the-close = c .before .before .before .before .before .before .before .close in
+    let p = start .pre in
+    let g = sought-as (start .args .r .used) (start .args .text .now) _ _ _ _ _ _ _ _ _ _ (the-x2 .given .1) (the-seek-rule .ensures) in
+    let f = fired-as (start .args .r .used) (start .args .text .now) _ _ _ _ _ _ _ _ _ _ refl (the-fire-kept2 .ensures .0) in
+    let l = the-fire-kept2 .ensures .1 in
     let u = heading-sound _ _ _ _ _ _ _ _ _ _ (p .3) _ _ _ _ g _ _ _ l f in
-    let a = read-as _ _ _ _ _ _ _ _ _ _ _ _ _ (c .before .before .before .before .before .before .before .close .ensures) (c .before .before .read-heading .ensures) in
+    let a = read-as _ _ _ _ _ _ _ _ _ _ _ _ _ (the-close .ensures) (c .before .before .read-heading .ensures) in
     step-heading _ _ _ _ _ _ _ _ _ _ (p .3) _ _ _ _ g _ _ _ l f _ _ _ _ _ (a .steps _ _ _ u)
 
 -- src/file.rt:23:1
@@ -218,7 +256,10 @@ same-length-8 c = search needs
 
 -- src/file.rt:23:1
 returns-4 : tie.Need-returns-4
-returns-4 c = rw (c .stop .ensures) (step-refused _ _ _ _ _ _ _ _ _ _ (c .before .before .before .before .before .before .before .before .before .before .before .before .before .before .before .before .before .pre .3) _ _ (sought-as (c .before .before .before .before .before .before .before .before .before .before .before .before .before .before .before .before .before .args .r .used) (c .before .before .before .before .before .before .before .before .before .before .before .before .before .before .before .before .before .args .text .now) _ _ _ _ _ _ _ _ _ _ (c .before .before .x3 .given .1) (c .before .before .before .before .seek-rule .ensures)))
+returns-4 c =
+    let start = c .before .before .before .before .before .before .before .before .before .before .before .before .before .before .before .before .before in
+    let the-seek-rule = c .before .before .before .before .seek-rule in
+    rw (c .stop .ensures) (step-refused _ _ _ _ _ _ _ _ _ _ (start .pre .3) _ _ (sought-as (start .args .r .used) (start .args .text .now) _ _ _ _ _ _ _ _ _ _ (c .before .before .x3 .given .1) (the-seek-rule .ensures)))
 
 -- src/file.rt:23:1
 same-length-9 : tie.Need-same-length-9
@@ -235,10 +276,14 @@ same-length-11 c = search needs
 -- src/file.rt:23:1
 returns-5 : tie.Need-returns-5
 returns-5 c =
-    let p = c .before .before .before .before .before .before .before .before .before .before .before .before .before .before .before .before .before .before .before .before .before .before .before .before .before .before .pre in
-    let f = fired-as (c .before .before .before .before .before .before .before .before .before .before .before .before .before .before .before .before .before .before .before .before .before .before .before .before .before .before .args .r .used) (c .before .before .before .before .before .before .before .before .before .before .before .before .before .before .before .before .before .before .before .before .before .before .before .before .before .before .args .text .now) _ _ _ _ _ _ _ _ _ _ refl (c .before .before .before .before .before .before .fire-kept3 .ensures .0) in
+    let start = c .before .before .before .before .before .before .before .before .before .before .before .before .before .before .before .before .before .before .before .before .before .before .before .before .before .before in
+    let the-seek-rule = c .before .before .before .before .before .before .before .before .before .before .before .before .before .seek-rule in
+    let the-enum-told = c .before .before .before .before .before .before .before .before .before .before .before .enum-told in
+    let the-fire-kept3 = c .before .before .before .before .before .before .fire-kept3 in
+    let p = start .pre in
+    let f = fired-as (start .args .r .used) (start .args .text .now) _ _ _ _ _ _ _ _ _ _ refl (the-fire-kept3 .ensures .0) in
     rw (c .end .ensures, c .before .close2 .ensures)
-    (step-end _ _ _ _ _ _ _ _ _ _ (p .3) (sought-as (c .before .before .before .before .before .before .before .before .before .before .before .before .before .before .before .before .before .before .before .before .before .before .before .before .before .before .args .r .used) (c .before .before .before .before .before .before .before .before .before .before .before .before .before .before .before .before .before .before .before .before .before .before .before .before .before .before .args .text .now) _ _ _ _ _ _ _ _ _ _ (c .before .before .before .before .before .before .before .before .before .before .before .enum-told .given .1) (c .before .before .before .before .before .before .before .before .before .before .before .before .before .seek-rule .ensures)) _ _ _ (c .before .before .before .before .before .before .fire-kept3 .ensures .1) f _ _)
+    (step-end _ _ _ _ _ _ _ _ _ _ (p .3) (sought-as (start .args .r .used) (start .args .text .now) _ _ _ _ _ _ _ _ _ _ (the-enum-told .given .1) (the-seek-rule .ensures)) _ _ _ (the-fire-kept3 .ensures .1) f _ _)
 
 pub read-on-spec : {M : Type 1} → statement M
 read-on-spec =

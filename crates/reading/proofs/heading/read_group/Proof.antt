@@ -27,7 +27,9 @@ part-group-line-end c = search needs
 
 -- src/heading.rt:97:9
 group-line-requires : tie.Need-group-line-requires
-group-line-requires c κs = (c .before .before .before .before .before .before .before .pre .0, c .before .before .before .before .before .before .before .pre .1, c .before .before .before .before .before .before .before .pre .2, named-whole (c .before .before .before .before .before .before .before .args .r .used) (c .before .before .before .before .before .before .before .args .text .now) _ _ (c .before .before .before .before .before .before .before .pre .4 .tables .named))
+group-line-requires c κs =
+    let start = c .before .before .before .before .before .before .before in
+    (start .pre .0, start .pre .1, start .pre .2, named-whole (start .args .r .used) (start .args .text .now) _ _ (start .pre .4 .tables .named))
 
 -- src/heading.rt:109:9
 stop-requires : tie.Need-stop-requires
@@ -39,7 +41,10 @@ same-length c = search needs
 
 -- src/heading.rt:109:9
 returns : tie.Need-returns
-returns c = rw (c .stop .ensures) (group-refused _ _ _ _ (c .before .before .before .before .before .before .before .before .before .before .before .pre .3) (c .before .before .before .before .before .before .before .before .before .before .before .pre .2) _ _ _ _ _ (c .before .before .before .group-line .ensures) (c .before .if1 .taken))
+returns c =
+    let start = c .before .before .before .before .before .before .before .before .before .before .before in
+    let the-group-line = c .before .before .before .group-line in
+    rw (c .stop .ensures) (group-refused _ _ _ _ (start .pre .3) (start .pre .2) _ _ _ _ _ (the-group-line .ensures) (c .before .if1 .taken))
 
 -- src/heading.rt:112:9
 stop-requires-2 : tie.Need-stop-requires-2
@@ -51,15 +56,23 @@ same-length-2 c = search needs
 
 -- src/heading.rt:112:9
 returns-2 : tie.Need-returns-2
-returns-2 c = rw (c .stop2 .ensures) (group-full _ _ _ _ (c .before .before .before .before .before .before .before .before .before .before .before .before .before .pre .3) (c .before .before .before .before .before .before .before .before .before .before .before .before .before .pre .2) _ _ _ _ _ (c .before .before .before .before .before .group-line .ensures) (c .before .before .before .if1 .left) (c .before .if2 .taken))
+returns-2 c =
+    let start = c .before .before .before .before .before .before .before .before .before .before .before .before .before in
+    let the-group-line = c .before .before .before .before .before .group-line in
+    let the-if1 = c .before .before .before .if1 in
+    rw (c .stop2 .ensures) (group-full _ _ _ _ (start .pre .3) (start .pre .2) _ _ _ _ _ (the-group-line .ensures) (the-if1 .left) (c .before .if2 .taken))
 
 -- src/heading.rt:118:9
 sub-define-group : tie.Need-sub-define-group
-sub-define-group c = omega (arith, c .before .before .before .before .before .before .before .before .before .before .before .before .before .pre .2 .some)
+sub-define-group c =
+    let start = c .before .before .before .before .before .before .before .before .before .before .before .before .before in
+    omega (arith, start .pre .2 .some)
 
 -- src/heading.rt:118:9
 part-define-group-start : tie.Need-part-define-group-start
-part-define-group-start c = omega (arith, c .before .before .before .before .before .before .before .before .before .before .before .before .before .pre .2 .some)
+part-define-group-start c =
+    let start = c .before .before .before .before .before .before .before .before .before .before .before .before .before in
+    omega (arith, start .pre .2 .some)
 
 -- src/heading.rt:118:9
 part-define-group-end : tie.Need-part-define-group-end
@@ -69,9 +82,13 @@ part-define-group-end c = search needs
 define-group-requires : tie.Need-define-group-requires
 unfolding part
 define-group-requires c κs =
-    let p = c .before .before .before .before .before .before .before .before .before .before .before .before .before .before .before .before .before .before .pre in
-    let l = name-short 0 _ _ _ (c .before .before .before .before .before .before .before .before .before .before .before .before .before .before .before .before .before .before .pre .3) (c .before .before .before .before .before .before .before .before .before .before .before .before .before .before .before .before .before .before .pre .2) _ _ _ _ _ (c .before .before .before .before .before .before .before .before .before .before .group-line .ensures) (c .before .before .before .before .before .before .before .before .if1 .left) in
-    (p .4 .used, omega (arith, l, p .4 .room, c .before .before .before .before .before .before .if2 .left), p .2 .yes, p .4 .tables, p .4 .names)
+    let start = c .before .before .before .before .before .before .before .before .before .before .before .before .before .before .before .before .before .before in
+    let the-group-line = c .before .before .before .before .before .before .before .before .before .before .group-line in
+    let the-if1 = c .before .before .before .before .before .before .before .before .if1 in
+    let the-if2 = c .before .before .before .before .before .before .if2 in
+    let p = start .pre in
+    let l = name-short 0 _ _ _ (start .pre .3) (start .pre .2) _ _ _ _ _ (the-group-line .ensures) (the-if1 .left) in
+    (p .4 .used, omega (arith, l, p .4 .room, the-if2 .left), p .2 .yes, p .4 .tables, p .4 .names)
 
 -- src/heading.rt:129:9
 stop-requires-3 : tie.Need-stop-requires-3
@@ -84,11 +101,19 @@ same-length-3 c = search needs
 -- src/heading.rt:129:9
 returns-3 : tie.Need-returns-3
 unfolding part
-returns-3 c = rw (c .stop3 .ensures) (group-twice _ _ _ _ (c .before .before .before .before .before .before .before .before .before .before .before .before .before .before .before .before .before .before .before .before .before .before .before .pre .3) (c .before .before .before .before .before .before .before .before .before .before .before .before .before .before .before .before .before .before .before .before .before .before .before .pre .2) _ _ _ _ _ (c .before .before .before .before .before .before .before .before .before .before .before .before .before .before .before .group-line .ensures) (c .before .before .before .before .before .before .before .before .before .before .before .before .before .if1 .left) _ _ _ _ _ (c .before .before .before .before .define-group .ensures) (c .before .if3 .taken))
+returns-3 c =
+    let start = c .before .before .before .before .before .before .before .before .before .before .before .before .before .before .before .before .before .before .before .before .before .before .before in
+    let the-group-line = c .before .before .before .before .before .before .before .before .before .before .before .before .before .before .before .group-line in
+    let the-if1 = c .before .before .before .before .before .before .before .before .before .before .before .before .before .if1 in
+    let the-define-group = c .before .before .before .before .define-group in
+    rw (c .stop3 .ensures) (group-twice _ _ _ _ (start .pre .3) (start .pre .2) _ _ _ _ _ (the-group-line .ensures) (the-if1 .left) _ _ _ _ _ (the-define-group .ensures) (c .before .if3 .taken))
 
 -- src/heading.rt:131:5
 grouped-requires : tie.Need-grouped-requires
-grouped-requires c κs = (omega (arith, c .before .before .before .before .before .before .before .before .before .before .before .before .before .before .before .before .before .before .before .before .before .before .pre .4 .tables .named .few), omega (arith, c .before .before .before .before .before .before .before .before .before .before .if2 .left))
+grouped-requires c κs =
+    let start = c .before .before .before .before .before .before .before .before .before .before .before .before .before .before .before .before .before .before .before .before .before .before in
+    let the-if2 = c .before .before .before .before .before .before .before .before .before .before .if2 in
+    (omega (arith, start .pre .4 .tables .named .few), omega (arith, the-if2 .left))
 
 -- src/heading.rt:80:1
 same-length-4 : tie.Need-same-length-4
@@ -97,7 +122,12 @@ same-length-4 c = search needs
 -- src/heading.rt:80:1
 returns-4 : tie.Need-returns-4
 unfolding part
-returns-4 c = rw (c .grouped .ensures) (group-more _ _ _ _ (c .before .before .before .before .before .before .before .before .before .before .before .before .before .before .before .before .before .before .before .before .before .before .before .pre .3) (c .before .before .before .before .before .before .before .before .before .before .before .before .before .before .before .before .before .before .before .before .before .before .before .pre .2) _ _ _ _ _ (c .before .before .before .before .before .before .before .before .before .before .before .before .before .before .before .group-line .ensures) (c .before .before .before .before .before .before .before .before .before .before .before .before .before .if1 .left) _ _ _ _ _ (c .before .before .before .before .define-group .ensures) (c .before .if3 .left))
+returns-4 c =
+    let start = c .before .before .before .before .before .before .before .before .before .before .before .before .before .before .before .before .before .before .before .before .before .before .before in
+    let the-group-line = c .before .before .before .before .before .before .before .before .before .before .before .before .before .before .before .group-line in
+    let the-if1 = c .before .before .before .before .before .before .before .before .before .before .before .before .before .if1 in
+    let the-define-group = c .before .before .before .before .define-group in
+    rw (c .grouped .ensures) (group-more _ _ _ _ (start .pre .3) (start .pre .2) _ _ _ _ _ (the-group-line .ensures) (the-if1 .left) _ _ _ _ _ (the-define-group .ensures) (c .before .if3 .left))
 
 pub read-group-spec : {M : Type 1} → statement M
 read-group-spec =

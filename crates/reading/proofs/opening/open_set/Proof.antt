@@ -27,7 +27,9 @@ closed-set-requires c κs = search needs
 -- src/opening.rt:39:9
 returns : tie.Need-returns
 returns c =
-    opened-closed _ _ (c .before .before .before .before .pre .0) (c .before .before .before .before .pre .1) (c .before .before .before .before .pre .2) (c .before .before .before .before .pre .3) _ (c .before .before .layout-range .ensures) _ _ (c .before .before .before .present-by .ensures) (c .before .if1 .taken) (c .closed-set .ensures)
+    let start = c .before .before .before .before in
+    let the-present-by = c .before .before .before .present-by in
+    opened-closed _ _ (start .pre .0) (start .pre .1) (start .pre .2) (start .pre .3) _ (c .before .before .layout-range .ensures) _ _ (the-present-by .ensures) (c .before .if1 .taken) (c .closed-set .ensures)
 
 -- src/opening.rt:46:16
 has-options-requires : tie.Need-has-options-requires
@@ -36,12 +38,16 @@ has-options-requires c κs = search needs
 -- src/opening.rt:47:17
 span-requires : tie.Need-span-requires
 span-requires c κs =
-    range-room _ _ (c .before .before .before .before .pre .0) (c .before .before .before .before .pre .1) (c .before .before .before .before .pre .2) (c .before .before .before .before .pre .3) _ (c .before .before .layout-range .ensures) (omega (arith, c .before .if1 .left))
+    let start = c .before .before .before .before in
+    range-room _ _ (start .pre .0) (start .pre .1) (start .pre .2) (start .pre .3) _ (c .before .before .layout-range .ensures) (omega (arith, c .before .if1 .left))
 
 -- src/opening.rt:30:1
 returns-2 : tie.Need-returns-2
 returns-2 c =
-    opened-set _ _ (c .before .before .before .before .before .pre .0) (c .before .before .before .before .before .pre .1) (c .before .before .before .before .before .pre .2) (c .before .before .before .before .before .pre .3) _ (c .before .before .before .layout-range .ensures) (omega (arith, c .before .before .if1 .left)) _ _ _ (c .before .before .before .before .present-by .ensures) (c .before .has-options .ensures) (c .span .ensures)
+    let start = c .before .before .before .before .before in
+    let the-present-by = c .before .before .before .before .present-by in
+    let the-layout-range = c .before .before .before .layout-range in
+    opened-set _ _ (start .pre .0) (start .pre .1) (start .pre .2) (start .pre .3) _ (the-layout-range .ensures) (omega (arith, c .before .before .if1 .left)) _ _ _ (the-present-by .ensures) (c .before .has-options .ensures) (c .span .ensures)
 
 pub open-set-spec : {M : Type 1} → statement M
 open-set-spec =

@@ -29,10 +29,13 @@ slice-aggregate-read-file c = search needs
 -- src/profiled.rt:53:5
 read-file-requires : tie.Need-read-file-requires
 read-file-requires c κs =
-    let p = c .before .before .before .before .before .before .before .before .before .before .before .before .before .before .before .before .before .before .before .before .pre in
-    let a = c .before .before .before .before .before .before .before .before .before .before .before .before .before .before .before .before .before .before .before .before .args in
+    let start = c .before .before .before .before .before .before .before .before .before .before .before .before .before .before .before .before .before .before .before .before in
+    let the-compile = c .before .before .before .before .before .before .before .before .compile in
+    let the-field-count = c .before .before .before .before .before .before .field-count in
+    let p = start .pre in
+    let a = start .args in
     let x = textsOf (a .model .now) (a .layouts .now) (a .variants .now) (a .options .now) in
-    (one-layout x _ (c .before .before .before .before .before .before .field-count .ensures) (p .0), one-digit x _ (c .before .before .before .before .before .before .field-count .ensures) (p .0), names-start _ _ _ _ _ _ _ (c .before .before .before .before .before .before .before .before .compile .ensures), p .1, p .2)
+    (one-layout x _ (the-field-count .ensures) (p .0), one-digit x _ (the-field-count .ensures) (p .0), names-start _ _ _ _ _ _ _ (the-compile .ensures), p .1, p .2)
 
 -- src/profiled.rt:18:1
 same-length : tie.Need-same-length
@@ -41,7 +44,11 @@ same-length c = search needs
 -- src/profiled.rt:18:1
 returns : tie.Need-returns
 returns c =
-    read-told _ _ _ _ _ _ _ (c .before .before .before .before .before .before .before .before .before .before .before .before .compile .ensures) _ (c .before .before .before .before .before .before .before .before .before .before .field-count .ensures) (c .before .before .before .before .before .before .before .before .before .before .before .before .before .before .before .before .before .before .before .before .before .before .before .before .pre .0) _ _ _ _ _ (c .before .before .before .read-file .ensures)
+    let start = c .before .before .before .before .before .before .before .before .before .before .before .before .before .before .before .before .before .before .before .before .before .before .before .before in
+    let the-compile = c .before .before .before .before .before .before .before .before .before .before .before .before .compile in
+    let the-field-count = c .before .before .before .before .before .before .before .before .before .before .field-count in
+    let the-read-file = c .before .before .before .read-file in
+    read-told _ _ _ _ _ _ _ (the-compile .ensures) _ (the-field-count .ensures) (start .pre .0) _ _ _ _ _ (the-read-file .ensures)
 
 pub read-for-spec : {M : Type 1} → statement M
 read-for-spec =
