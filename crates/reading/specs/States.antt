@@ -20,8 +20,8 @@ use Rattle.firing.specs.Line.{Fires}
 use Rattle.matching.specs.Held.{headingBy}
 use Rattle.names.specs.Compiled.{Tables}
 use Rattle.names.specs.Ready.{Ready}
+use Rattle.answers.specs.Firings.{fileFirings}
 use Rattle.reading.specs.declared.Reading.{Reading}
-use Rattle.reading.specs.Order.{fileFirings}
 use Rattle.reading.specs.Owed.{Kept, owed}
 use Rattle.reading.specs.Seeking.{SetOpen}
 use Rattle.reading.specs.Keeping.{KeptPlaces}
