@@ -15,7 +15,7 @@ use Rattle.answers.specs.Firings.{Firing, fired, ruleFires, firesAt}
 use Rattle.bitsets.specs.Sets.{isIn}
 use Rattle.firing.specs.declared.Cursors.{Cursors}
 use Rattle.firing.specs.Writing.{runBuf, runCur}
-use Rattle.matching.specs.Held.{headingBy}
+use Rattle.rules.specs.Held.{headingBy}
 use Rattle.reading.specs.declared.OpenSet.{OpenSet}
 use Rattle.reading.specs.Owed.{Kept, layoutsIn, keptFires}
 use Rattle.reading.specs.Keeping.{placeFires, KeptFired}

@@ -16,7 +16,7 @@ use Rattle.answers.specs.Matching.{members, isOptions, ruleMatches}
 use Rattle.answers.specs.Layouts.{layoutsOf}
 use Rattle.answers.specs.Firings.{Firing, ruleFires, setFires, ruleByRule, firesAt, headFires}
 use Rattle.bitsets.specs.Sets.{isIn}
-use Rattle.matching.specs.Held.{headingBy}
+use Rattle.rules.specs.Held.{headingBy}
 use Rattle.reading.specs.declared.OpenSet.{OpenSet}
 use Rattle.reading.specs.Order.{rulesFrom, firingsFrom}
 use Rattle.reading.specs.Owed.{Kept, AllWanted, wanting, keeping, layoutsIn, owedAt, setOwes, owed, keptFires}

@@ -18,8 +18,7 @@ use Rattle.rules.proofs.CheckSteps.{entry-any}
 use Rattle.answers.specs.Matching.{members}
 use Rattle.firing.specs.declared.Cursors.{Cursors}
 use Rattle.firing.specs.Writing.{runBuf, runCur}
-use Rattle.matching.specs.Held.{headingBy, SetSized}
-use Rattle.matching.specs.Ranges.{FromOne}
+use Rattle.rules.specs.Held.{headingBy, SetSized, FromOne}
 use Rattle.judging.specs.declared.SetLine.{SetLine}
 use Rattle.judging.specs.Sets.{SetLineOf}
 use Rattle.answers.specs.Firings.{headFires}

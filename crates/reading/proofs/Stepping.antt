@@ -26,7 +26,7 @@ use Rattle.firing.specs.Writing.{Low, runBuf, runCur}
 use Rattle.firing.specs.Line.{Fires}
 use Rattle.firing.proofs.Written.{buf-append, cur-append, length-run, run-buf-nil, run-cur-nil}
 use Rattle.firing.proofs.Going.{low-run}
-use Rattle.matching.specs.Held.{headingBy, SetSized}
+use Rattle.rules.specs.Held.{headingBy, SetSized}
 use Rattle.reading.specs.declared.OpenSet.{OpenSet}
 use Rattle.reading.specs.declared.Reading.{Reading}
 use Rattle.reading.specs.declared.Sought.the-variants as sought

@@ -14,7 +14,7 @@ use Rattle.rules.specs.Faults.{lineFaults}
 use Rattle.rules.specs.Checking.{noHeading}
 use Rattle.firing.specs.declared.Cursors.{Cursors}
 use Rattle.firing.specs.Writing.{runBuf, runCur}
-use Rattle.matching.specs.Held.{SetSized}
+use Rattle.rules.specs.Held.{SetSized}
 use Rattle.names.specs.declared.Held.{Held}
 use Rattle.names.specs.Compiled.{Tables}
 use Rattle.names.specs.Ready.{Ready}

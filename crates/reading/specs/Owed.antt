@@ -12,7 +12,7 @@ use Rattle.rules.specs.Faults.{Groups}
 use Rattle.answers.specs.Matching.{members}
 use Rattle.answers.specs.Firings.{Firing, firesAt, setFires, ruleByRule}
 use Rattle.bitsets.specs.Sets.{isIn}
-use Rattle.matching.specs.Held.{headingBy}
+use Rattle.rules.specs.Held.{headingBy}
 use Rattle.reading.specs.declared.OpenSet.{OpenSet}
 use Rattle.reading.specs.Order.{rulesFrom, firingsFrom}
 

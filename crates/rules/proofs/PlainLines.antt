@@ -12,7 +12,7 @@ use Rattle.text.specs.Words.{wordsFault}
 use Rattle.text.specs.Reading.{left, ahead, follow, faultOf, kindOf, Fenced, Blanks, Skipped, PlainFound, ByteWord, NoWord, Opens}
 use Rattle.text.proofs.Lists.{no, and-both}
 use Rattle.text.proofs.ByteKinds.{not-bad, kind-zero}
-use Rattle.text.proofs.Readers.{lineAt, line-first, fault-cons, fault-nil, lower-zero, blanks-start, between-skip, between-feed, opened-skip, opened-same, fence-in}
+use Rattle.text.proofs.Readers.{lineAt, line-first, fault-cons, fault-nil, lower-zero, between-skip, between-feed, opened-skip, opened-same, fence-in}
 use Rattle.rules.specs.declared.Present.{Present}
 use Rattle.rules.specs.Words.{isEquals, ordinary, leftWord}
 use Rattle.rules.specs.Percent.{pieces, badPiece, malformed}
@@ -233,21 +233,6 @@ module _ (s : Text) (f from i : ℕ) (p : Present) (g : Fenced s f) (h : from < 
   opens-at n y x z =
       opened-same s from n i n (opened-skip s from n i y (k .blanks)) (fence-in s f i g l)
       (record { blank = k .stop (fence-in s f i g l); bang = x; joins = λ e c. z e })
-
-  pub line-none : getD s i 0 ≡ 10 → LineRead s from p (i + 1)
-  line-none e =
-      let j = fence-in s f i g l in
-      let x : (n : ℕ) → n ≤ from + 1 → NoWord s i n (i + 1) (n + 1) =
-      λ n y. between-feed s i n i n (between-skip s i n i (omega (arith, y, k .blanks .low)) (blanks-start s i (omega arith))) j e in
-      record {
-        low = omega (arith, k .blanks .low);
-        high = omega arith;
-        words = [];
-        read = λ n y.
-            opens-read s from n i (omega (arith, g .high)) (opens-at n y (λ q. absurd (omega arith)) (λ q. absurd (omega arith)))
-            ∙ rw (x n y .none, x n y .onto) refl;
-        passes = passes-none p;
-      }
 
   pub line-rule : (e : ℕ) → (getD s i 0 ≡ 33 → ⊥) → kindOf (getD s i 0) ≡ 0 → (p .form ≡ 0 → ⊥) → RuleRead s i p e → LineRead s from p e
   line-rule e x z q r =

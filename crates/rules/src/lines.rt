@@ -143,3 +143,13 @@ pub fn split_line(
         }
     }
 }
+
+// Where the fence stands in the part of the file from `from` on.
+pub fn fence_behind(fence: usize, from: usize) -> usize
+    ensures { λ r. ⌜ r ≡ fence - from ⌝ }
+{
+    if fence < from {
+        return 0;
+    }
+    fence - from
+}
