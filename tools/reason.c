@@ -489,6 +489,7 @@ static int say_comment(const scene *s, diagnosis *d)
         size_t n = strlen(marks[i]);
         span w = s->line.words[0];
         if (w.to - w.from >= n && memcmp(s->bytes + w.from, marks[i], n) == 0) {
+            d->mark = w;
             say(d, "'%s' begins no comment here; '//' does", marks[i]);
             return 1;
         }
@@ -652,7 +653,7 @@ static void bad_percent(const scene *s, diagnosis *d)
         else if (is_open(s->bytes, item, '(', ')') && item.to - item.from > 3)
             say(d, ": ')' has to follow the item in parentheses");
         else
-            say(d, " begins no item: after '%%' stands m, l, v or i, for m, l and v with a sign + | - _ before it or in parentheses");
+            say(d, " is no percent item: after '%%' stands m, l, v or i; m, l and v may have + | - _ or '(' before them");
     }
     d->mark = item;
 }
