@@ -178,7 +178,7 @@ static int can_go_on(trial *t, size_t cut)
     uint8_t last = t->bytes[cut - 1];
 
     t->cut = cut;
-    return passes(t, "") || any_stem_passes(t, any) || ((last == '\\' || last == '\r') && any_stem_passes(t, feed))
+    return passes(t, "") || any_stem_passes(t, any) || ((last == '\\' || last == '\r') && (passes(t, feed[0]) || any_stem_passes(t, feed)))
         || (t->scene->line.heading && any_keyword_passes(t)) || (t->number == XKBRULES_BAD_PERCENT && any_stem_passes(t, items))
         || (t->number == XKBRULES_BAD_GROUP && any_stem_passes(t, names));
 }

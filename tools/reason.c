@@ -42,13 +42,13 @@ static const struct {
     unsigned long from, to;
     const char *name;
 } characters[] = {
-    {0x00, 0x00, "NUL"},
-    {0x07, 0x07, "BEL"},
-    {0x08, 0x08, "backspace"},
-    {0x0B, 0x0B, "vertical tab"},
-    {0x0C, 0x0C, "form feed"},
-    {0x1B, 0x1B, "ESC"},
-    {0x7F, 0x7F, "DEL"},
+    {0x00, 0x00, "NUL, which has no place in rules"},
+    {0x07, 0x07, "BEL, which has no place in rules"},
+    {0x08, 0x08, "backspace, which has no place in rules"},
+    {0x0B, 0x0B, "vertical tab, which has no place in rules"},
+    {0x0C, 0x0C, "form feed, which has no place in rules"},
+    {0x1B, 0x1B, "ESC, which has no place in rules"},
+    {0x7F, 0x7F, "DEL, which has no place in rules"},
     {0xA0, 0xA0, "an invisible no-break space; put a blank there"},
     {0xAD, 0xAD, "an invisible soft hyphen"},
     {0x2000, 0x200A, "a space that is no blank here; put a blank there"},
@@ -64,11 +64,14 @@ static const struct {
     {0xFF1D, 0xFF1D, "an equals sign of double width; put '=' there"}
 };
 
-static void say_name(diagnosis *d, unsigned long c)
+static const char only_ascii[] = "outside a comment only blanks and 0x21 to 0x7E may stand";
+
+static const char *name_of(unsigned long c)
 {
     for (size_t i = 0; i < sizeof characters / sizeof characters[0]; i++)
         if (c >= characters[i].from && c <= characters[i].to)
-            say(d, ", %s", characters[i].name);
+            return characters[i].name;
+    return only_ascii;
 }
 
 /* The bytes of a character of two or three bytes, 0 where there is none; *c is the character. */
@@ -124,11 +127,11 @@ static void say_byte(const scene *s, diagnosis *d)
         say(d, "a byte order mark of UTF-16 at the start of the file: save it as plain ASCII");
     } else {
         say(d, n == 0 ? "the byte 0x%02lX" : "the character U+%04lX", c);
-        say_name(d, n == 0 && c == 0xA0 ? 0xA0 : n == 0 && c > 0x7F ? 1 : c);
         if (d->at >= word.from && d->at < word.to && word.to - word.from > (n == 0 ? 1 : n)) {
-            say(d, ", in ");
+            say(d, " in ");
             say_word(d, s->bytes, word);
         }
+        say(d, ": %s", n == 0 && c > 0x7F && c != 0xA0 ? only_ascii : name_of(c));
     }
 }
 
