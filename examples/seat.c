@@ -1,11 +1,11 @@
-/* What a session program does when a seat's keyboard profile is chosen: read the rules file, put in its own defaults,
-   resolve the profile, hand on the keymap.
+/* What a session program does when a seat's keyboard profile is chosen: read the rules file, put in its own
+   defaults, resolve the profile, hand on the keymap.
 
        seat RULES MODEL LAYOUTS VARIANTS OPTIONS
 
-   Prints the keymap text that xkbcomp or libxkbcommon compiles, or a refusal. Exit status: 0 accepted, 1 refused, 2 the
-   file can't be read. At a refusal there is no keymap: a seat then takes its house profile, which was tried before, and
-   never the strings of the person before. */
+   Prints the keymap text that xkbcomp or libxkbcommon compiles, or a refusal. Exit status: 0 accepted, 1 refused,
+   2 the file can't be read. At a refusal there is no keymap: a seat then takes its house profile, which was tried
+   before, and never the strings of the person before. */
 #include <stdio.h>
 #include <string.h>
 

@@ -1,8 +1,10 @@
-/* The keymap text of a resolved profile: the five strings of xkbrules.h as a text that xkbcomp and libxkbcommon compile
-   (xkb_keymap_new_from_string, xkb_keymap_new_from_buffer). C99 or C++; nothing is to be linked beside libxkbrules.a.
+/* The keymap text of a resolved profile: the five strings of xkbrules.h as a text that xkbcomp and libxkbcommon
+   compile (xkb_keymap_new_from_string, xkb_keymap_new_from_buffer). C99 or C++; nothing is to be linked beside
+   libxkbrules.a.
 
-   Strings hold what a profile holds, quotes and backslashes too, and those of a card hold any bytes. Put between quotes
-   as they are, a layout such as us"};xkb_geometry{include"x would begin a section of its own. Here they are escaped.
+   Strings hold what a profile holds, quotes and backslashes too, and those of a card hold any bytes. Put between
+   quotes as they are, a layout such as us"};xkb_geometry{include"x would begin a section of its own. Here they are
+   escaped.
 
        char keymap[XKBRULES_KEYMAP_ROOM];
        if (xkbrules_keymap(texts, sizeof texts, sheet, sizeof sheet, keymap, sizeof keymap) < sizeof keymap)
@@ -13,8 +15,8 @@
 
 #include "xkbrules.h"
 
-/* Room for the keymap text. A byte of a string becomes four at most, and 512 are ample for what stands around the strings:
-   the first is enough for strings of XKBRULES_ROOM bytes in all, the second for all that are accepted. */
+/* Room for the keymap text. A byte of a string becomes four at most, and 512 are ample for what stands around the
+   strings: the first is enough for strings of XKBRULES_ROOM bytes in all, the second for all that are accepted. */
 enum {
     XKBRULES_KEYMAP_ROOM = 4 * XKBRULES_ROOM + 512,
     XKBRULES_MOST_KEYMAP = 4 * XKBRULES_MOST_ROOM + 512
@@ -43,9 +45,9 @@ static inline void xkbrules_keymap_words(struct xkbrules_keymap_cursor *c, const
         xkbrules_keymap_byte(c, (unsigned char)*s++);
 }
 
-/* A string as both readers know it. A backslash is doubled; a quote, and every byte that isn't 0x20 to 0x7E, is an octal
-   number (\" is not known to libxkbcommon). Such a number ends after three digits in one reader and after four in the
-   other, so a digit from 0 to 7 behind one is written as a number too. */
+/* A string as both readers know it. A backslash is doubled; a quote, and every byte that isn't 0x20 to 0x7E, is an
+   octal number (\" is not known to libxkbcommon). Such a number ends after three digits in one reader and after
+   four in the other, so a digit from 0 to 7 behind one is written as a number too. */
 static inline void xkbrules_keymap_string(struct xkbrules_keymap_cursor *c, const uint8_t *s, size_t len)
 {
     int number = 0; /* the byte before was written as one */
@@ -106,9 +108,9 @@ static inline size_t xkbrules_keymap_put(const uint8_t *texts, size_t texts_len,
    sheet   the sheet of their lengths, as xkbrules_resolve left it; or the last 40 bytes of a card's
    keymap  room for the text and a closing zero
 
-   Returns the length of the text, without the zero. It is written if it is less than `room`; else nothing is written, so
-   that a caller may ask for the length with a room of 0. Texts and a sheet that xkbrules_component finds no component in
-   give five empty sections. The text has bytes from 0x20 to 0x7E and LF alone. */
+   Returns the length of the text, without the zero. It is written if it is less than `room`; else nothing is
+   written, so that a caller may ask for the length with a room of 0. Texts and a sheet that xkbrules_component
+   finds no component in give five empty sections. The text has bytes from 0x20 to 0x7E and LF alone. */
 static inline size_t xkbrules_keymap(const uint8_t *texts, size_t texts_len, const uint8_t *sheet, size_t sheet_len,
                                      char *keymap, size_t room)
 {

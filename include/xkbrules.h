@@ -8,12 +8,15 @@
    The functions keep no state between calls, allocate nothing and lock nothing, so any number of threads may call them at once, each with its own
    slices to write to. They always return. They use about 32 KiB of stack.
 
-   "Accepted" says that the file and the profile are well formed and that the strings are theirs. It does not say that a keyboard will work:
-   - An empty layouts text is one empty layout, which no rule for a layout matches: the strings then name no layout. Empty strings are accepted too.
-   - Defaults are the caller's. Nothing is put in for an empty text; libxkbcommon takes pc105 for an empty model and us for empty layouts.
+   "Accepted" says that the file and the profile are well formed and that the strings are theirs. It does not say that a
+   keyboard will work:
+   - An empty layouts text is one empty layout, which no rule for a layout matches: the strings then name no layout. Empty
+     strings are accepted too.
+   - Defaults are the caller's. Nothing is put in for an empty text; libxkbcommon takes pc105 for an empty model and us for
+     empty layouts.
    - Whether the files exist that a string names, and whether they compile, is known when the keymap is compiled.
-   The strings may hold any byte from 0x21 to 0x7E that the profile holds, quotes too: don't print them between quotes of a keymap text;
-   xkbrules-keymap.h does that.
+   The strings may hold any byte from 0x21 to 0x7E that the profile holds, quotes too: don't print them between the quotes
+   of a keymap text; xkbrules-keymap.h does that.
 
    An example:
 
@@ -76,7 +79,8 @@ enum {
     XKBRULES_MOST_ROOM = 1048576
 };
 
-/* Limits. A caller that reads a rules file lends one byte more than XKBRULES_MOST_FILE, if the file has it, so that a longer file is refused and not cut. */
+/* Limits. A caller that reads a rules file makes room for one byte more than XKBRULES_MOST_FILE, so that a longer file is
+   refused and not cut. */
 enum {
     XKBRULES_MOST_FILE = 65536,   /* bytes of a rules file */
     XKBRULES_MOST_WORD = 256,     /* bytes of a word in it */
@@ -172,7 +176,8 @@ static inline uint64_t xkbrules_place(uint64_t answer)
     return answer & UINT64_C(0xFFFFFFFFFFFF);
 }
 
-/* What a number says, in a line of ASCII without a full stop; for a number that this version doesn't know, that. Never NULL. */
+/* What a number says, in a line of ASCII without a full stop; of a number that this version doesn't know, that it doesn't.
+   Never NULL. */
 static inline const char *xkbrules_message(unsigned number)
 {
     switch (number) {
@@ -193,7 +198,7 @@ static inline const char *xkbrules_message(unsigned number)
     }
 }
 
-/* The version that a program was built with, as its output may show it: that of this header, and of the library that is installed with it. */
+/* The version that a program was built with, for its output: that of this header, and of the library installed with it. */
 static inline const char *xkbrules_version(void)
 {
     return XKBRULES_VERSION;

@@ -20,8 +20,8 @@ verdict ask_profile(const bundle *b, const profile *p)
                                        strings, sizeof strings, sheet, sizeof sheet));
 }
 
-/* A file is checked by resolving the empty profile: no refusal of a line depends on the profile, all lines are looked at,
-   and the strings are no longer than the file, so that 11 can't come. */
+/* A file is checked by resolving the empty profile: no refusal of a line depends on the profile, all lines are
+   looked at, and the strings are no longer than the file, so that 11 can't come. */
 verdict ask(const bundle *b)
 {
     static const profile empty;

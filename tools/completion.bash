@@ -1,4 +1,4 @@
-# Completion of xkbrules for bash: commands, options, files; for resolve and card the value of an option is the user's own.
+# Completion of xkbrules for bash: commands, options, files. For the value of an option it has nothing to offer.
 _xkbrules()
 {
     local word=${COMP_WORDS[COMP_CWORD]} before=${COMP_WORDS[COMP_CWORD - 1]} command= i words

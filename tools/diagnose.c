@@ -1,15 +1,18 @@
-/* The spot of a fault, and all faults of a file. Both are found by asking the library about files made from the one given.
+/* The spot of a fault, and all faults of a file. Both are found by asking the library about files made from the
+   one given.
 
-   The spot of a refused line is the last byte of its shortest prefix that is refused so, however the line goes on: with
-   `* = a` under a heading that asks two right words, the rest of the line could still bring the second, so that the spot
-   is the line's end; with `* = a b c` it is `c`. If a prefix can go on to a line that isn't refused so, each shorter one
-   can too, by what it lacks of the longer and then the same; so the longest one that can is found by halving. Of all ways
-   to go on some are tried, those that complete a word and give the words that are missing. Where none of these helps but
-   another would, the spot is too far left; number and line are the library's in any case.
+   The spot of a refused line is the last byte of its shortest prefix that is refused so, however the line goes on:
+   with `* = a` under a heading that asks two right words, the rest of the line could still bring the second, so
+   that the spot is the line's end; with `* = a b c` it is `c`. If a prefix can go on to a line that isn't refused
+   so, each shorter one can too, by what it lacks of the longer and then the same; so the longest one that can is
+   found by halving. Of all ways to go on some are tried, those that complete a word and give the words that are
+   missing. Where none of these helps but another would, the spot is too far left; number and line are the
+   library's in any case.
 
-   For all faults, a line that is refused is blanked and the library asked again. The rules under a refused heading, and
-   those that have no heading, are blanked with it: they can't be judged before it is right. Hidden is therefore a fault
-   of such a rule, a second fault of a line, and a group that is defined again behind a refused line that defines it. */
+   For all faults, a line that is refused is blanked and the library asked again. The rules under a refused
+   heading, and those that have no heading, are blanked with it: they can't be judged before it is right. Hidden is
+   therefore a fault of such a rule, a second fault of a line, and a group that is defined again behind a refused
+   line that defines it. */
 #include <stdlib.h>
 #include <string.h>
 
@@ -167,8 +170,9 @@ static int any_stem_passes(trial *t, const char *const *stems)
     return 0;
 }
 
-/* Whether some way to go on from the cut is not refused so. A backslash or a CR may have its LF still to come; a slash
-   its second; `$` and `=` become words by a letter; a percent item may be completed; a group's name may become another. */
+/* Whether some way to go on from the cut is not refused so. A backslash or a CR may have its LF still to come; a
+   slash its second; `$` and `=` become words by a letter; a percent item may be completed; a group's name may
+   become another. */
 static int can_go_on(trial *t, size_t cut)
 {
     static const char *const any[] = {"", "x", "/", NULL};
@@ -185,7 +189,8 @@ static int can_go_on(trial *t, size_t cut)
 
 /* -- The spot -- */
 
-/* The spot as an offset into the trial's file. Of a line that ends with the file, the end may still be missing words. */
+/* The spot as an offset into the trial's file. Of a line that ends with the file, the end may still be missing
+   words. */
 static size_t find_cut(trial *t)
 {
     size_t good = t->from, bad = t->len > t->from && t->bytes[t->len - 1] == '\n' ? t->len : t->len + 1;
@@ -279,7 +284,8 @@ static void diagnose_line(const bundle *b, verdict v, const scene *s, diagnosis 
 
 /* -- All faults -- */
 
-/* Blanks the line and, where a heading is missing or refused, the rules up to the next one. 0 if that changes nothing. */
+/* Blanks the line and, where a heading is missing or refused, the rules up to the next one. 0 if that changes
+   nothing. */
 static int blank(rules_file *file, const scene *s)
 {
     int orphans = s->line.heading || s->kind != SET_HEADING, changed = 0;

@@ -74,16 +74,20 @@ static const char *name_of(unsigned long c)
     return only_ascii;
 }
 
-/* The bytes of a character of two or three bytes, 0 where there is none; *c is the character. */
+/* The bytes of a character of two to four bytes, 0 where there is none; *c is the character. */
 static size_t wide_character(const uint8_t *s, size_t n, unsigned long *c)
 {
     if (n >= 2 && (s[0] & 0xE0) == 0xC0 && (s[1] & 0xC0) == 0x80) {
-        *c = (s[0] & 0x1Fu) << 6 | (s[1] & 0x3Fu);
+        *c = (s[0] & 0x1Ful) << 6 | (s[1] & 0x3Fu);
         return *c < 0x80 ? 0 : 2;
     }
     if (n >= 3 && (s[0] & 0xF0) == 0xE0 && (s[1] & 0xC0) == 0x80 && (s[2] & 0xC0) == 0x80) {
         *c = (s[0] & 0x0Ful) << 12 | (s[1] & 0x3Fu) << 6 | (s[2] & 0x3Fu);
         return *c < 0x800 ? 0 : 3;
+    }
+    if (n >= 4 && (s[0] & 0xF8) == 0xF0 && (s[1] & 0xC0) == 0x80 && (s[2] & 0xC0) == 0x80 && (s[3] & 0xC0) == 0x80) {
+        *c = (s[0] & 0x07ul) << 18 | (s[1] & 0x3Ful) << 12 | (s[2] & 0x3Fu) << 6 | (s[3] & 0x3Fu);
+        return *c < 0x10000 || *c > 0x10FFFF ? 0 : 4;
     }
     return 0;
 }
@@ -334,7 +338,8 @@ static void say_nearest(diagnosis *d, const uint8_t *bytes, span word, const cha
         }
 }
 
-/* The word of the heading that repeats a word's item, or gives layout or variant another index; empty where none does. */
+/* The word of the heading that repeats a word's item, or gives layout or variant another index; empty where none
+   does. */
 static span other_word(const scene *s, span word, const char *const *items)
 {
     const char *item = item_of(s->bytes, word, items);
@@ -582,13 +587,16 @@ static void bad_rule(const scene *s, diagnosis *d)
 
 /* -- Percent items -- */
 
-/* Where the item begins that a spot of a word is in: the `%` before it, or that of the item whose index is `[%i]`. */
+/* Where the item begins that a spot of a word is in: the `%` before it, that of `%%`, or that of an item with
+   `[%i]`. */
 static size_t item_start(const uint8_t *bytes, span word, size_t at)
 {
     size_t i = at < word.to ? at : word.to - 1;
 
     while (i > word.from && bytes[i] != '%')
         i--;
+    if (i == at && i > word.from && bytes[i - 1] == '%')
+        return i - 1;
     if (i > word.from + 1 && bytes[i - 1] == '[' && (bytes[i - 2] == 'l' || bytes[i - 2] == 'v'))
         for (size_t j = i - 2; j > word.from && i - j <= 4; j--)
             if (bytes[j - 1] == '%')
@@ -596,7 +604,8 @@ static size_t item_start(const uint8_t *bytes, span word, size_t at)
     return i;
 }
 
-/* The form of an item from its start on: whether it is one if the heading has an index word, and where it ends then. */
+/* The form of an item from its start on: whether it is one if the heading has an index word, and where it ends
+   then. */
 static size_t indexed_item(const uint8_t *bytes, span word, size_t at)
 {
     static const char *const forms[] = {"%i", "%l[%i]", "%v[%i]", "%(l[%i])", "%(v[%i])"};

@@ -1,5 +1,5 @@
-/* What is printed of a fault. Every byte of a file, a name or an argument goes through put_safe or json_string, so that
-   none reaches a terminal as a command. */
+/* What is printed of a fault. Every byte of a file, a name or an argument goes through put_safe or json_string, so
+   that none reaches a terminal as a command. */
 #include <string.h>
 
 #include "tool.h"
@@ -139,7 +139,8 @@ static unsigned long character(const uint8_t *s, size_t n, size_t *used)
     return c;
 }
 
-/* A string of ASCII alone: what isn't 0x20 to 0x7E stands by its number, and a byte that begins no character as U+FFFD. */
+/* A string of ASCII alone: what isn't 0x20 to 0x7E stands by its number, and a byte that begins no character as
+   U+FFFD. */
 void json_string(FILE *to, const char *s, size_t n)
 {
     size_t used;

@@ -7,8 +7,8 @@
    show.c      what is printed of it, for a terminal or as JSON
    xkbrules.c  the command line
 
-   The library alone decides what is refused, with which number and at which line. What line.c sees of a line only chooses
-   words for that, and what else the library is asked. */
+   The library alone decides what is refused, with which number and at which line. What line.c sees of a line only
+   chooses words for that, and what else the library is asked. */
 #ifndef XKBRULES_TOOL_H
 #define XKBRULES_TOOL_H
 
@@ -66,7 +66,8 @@ typedef struct {
 
 enum { FEW_WORDS = 12 };
 
-/* A line with those that backslashes join to it, by offsets into its file. Words are counted behind the `!` of a heading. */
+/* A line with those that backslashes join to it, by offsets into its file. Words are counted behind the `!` of a
+   heading. */
 typedef struct {
     size_t from, end, to;  /* its first byte; its line end, or the file's; what is behind that */
     int heading;
@@ -79,7 +80,8 @@ typedef struct {
 
 void read_line(const uint8_t *bytes, size_t len, size_t from, line *l);
 
-/* The word that a position is in, or else the one that ends before it with blanks between; empty where there is none. */
+/* The word that a position is in, or else the one that ends before it with blanks between; empty where there is
+   none. */
 span word_at(const uint8_t *bytes, size_t len, const line *l, size_t at);
 
 int is_word(const uint8_t *bytes, span word, const char *s);

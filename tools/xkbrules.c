@@ -1,8 +1,8 @@
-/* xkbrules: a command for people who write rules files. `check` shows the bad lines of files, `resolve` what a profile
-   becomes under a file; `card` writes that as a desk's card, and `show-card` shows what a card holds.
+/* xkbrules: a command for people who write rules files. `check` shows the bad lines of files, `resolve` what a
+   profile becomes under a file; `card` writes that as a desk's card, and `show-card` shows what a card holds.
 
-   Every refusal, with its number and place, and every string comes from libxkbrules.a; nothing here decides about a rule,
-   a profile or a card. tool.h tells the parts. */
+   Every refusal, with its number and place, and every string comes from libxkbrules.a; nothing here decides about
+   a rule, a profile or a card. tool.h tells the parts. */
 #include <errno.h>
 #include <stdlib.h>
 #include <string.h>
@@ -112,6 +112,7 @@ typedef struct {
     const profile *p;
     size_t shown;
     int status;
+    int more; /* some file has bad lines that are not shown */
 } report;
 
 static void show_fault(const diagnosis *d, void *with)
@@ -173,7 +174,6 @@ static void check_file(const char *name, report *r)
     bundle b = {&file, 1};
     size_t most = asked->all ? (size_t)-1 : asked->limit != 0 ? asked->limit : USUAL_LIMIT;
     verdict v;
-    int more;
 
     if (read_rules(name, &file) != GOOD) {
         r->status = FAILED;
@@ -182,8 +182,10 @@ static void check_file(const char *name, report *r)
     v = ask(&b);
     if (v.number == XKBRULES_ACCEPTED)
         return;
-    more = diagnose(&b, v, most, show_fault, r);
-    if (more && !asked->json) {
+    if (!diagnose(&b, v, most, show_fault, r))
+        return;
+    r->more = 1;
+    if (!asked->json) {
         put_word(file.name);
         fputs(": more lines are bad; --all shows them\n", stderr);
     }
@@ -191,14 +193,14 @@ static void check_file(const char *name, report *r)
 
 static int check(const request *asked)
 {
-    report r = {asked, NULL, 0, GOOD};
+    report r = {asked, NULL, 0, GOOD, 0};
 
     if (asked->json)
         fputs("{\"faults\":[", stdout);
     for (size_t i = 0; i < asked->count; i++)
         check_file(asked->files[i], &r);
     if (asked->json)
-        fputs(r.shown == 0 ? "]}\n" : "\n]}\n", stdout);
+        printf("%s],\"more\":%s}\n", r.shown == 0 ? "" : "\n", r.more ? "true" : "false");
     return printed(r.status);
 }
 
@@ -286,7 +288,7 @@ static int print_answer(const request *asked, const profile *p)
 
 static int refuse(const bundle *b, const profile *p, verdict v, const request *asked)
 {
-    report r = {asked, p, 0, GOOD};
+    report r = {asked, p, 0, GOOD, 0};
 
     if (asked->json)
         fputs("{\"faults\":[", stdout);
@@ -356,7 +358,8 @@ static int show_card(const request *asked)
 
 /* -- The command line -- */
 
-/* Whether an argument is an option of a long name, after one dash, as setxkbmap has them, or two. What stands behind a `=` is its value. */
+/* Whether an argument is an option of a long name, after one dash, as setxkbmap has them, or two. What stands
+   behind a `=` is its value. */
 static int is_long(const char *arg, const char *name, const char **value)
 {
     size_t len = strlen(name);
@@ -368,8 +371,9 @@ static int is_long(const char *arg, const char *name, const char **value)
     return 1;
 }
 
-/* The text that an argument is an option for, or TEXTS; with the value if the argument holds it. The plural is taken too,
-   since xkbcli has --options where setxkbmap has -option. A letter stands alone, so that no mistyped name is taken for one. */
+/* The text that an argument is an option for, or TEXTS; with the value if the argument holds it. The plural is
+   taken too, since xkbcli has --options where setxkbmap has -option. A letter stands alone, so that no mistyped
+   name is taken for one. */
 static int text_of(const char *arg, const char **value)
 {
     for (int i = 0; i < TEXTS; i++)

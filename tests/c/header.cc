@@ -1,4 +1,5 @@
-// The headers in C++: their declarations, and their helpers in use; every number of enum xkbrules_refusal has a message of its own.
+// The headers in C++: their declarations, and their helpers in use; every number of enum xkbrules_refusal has a message
+// of its own.
 #include <cstdint>
 #include <cstring>
 #include <set>

@@ -1,5 +1,6 @@
-/* xkbrules-keymap.h with hostile texts: every byte, alone and before every other, comes back whole from a reader of the keymap text as libxkbcommon reads
-   it (octal numbers of three digits) and as xkbcomp does (of four); lengths, rooms and bytes that are left alone. */
+/* xkbrules-keymap.h with hostile texts: every byte, alone and before every other, comes back whole from a reader
+   of the keymap text as libxkbcommon reads it (octal numbers of three digits) and as xkbcomp does (of four);
+   lengths, rooms and bytes that are left alone. */
 #include <stdio.h>
 #include <stdlib.h>
 #include <string.h>
@@ -21,7 +22,8 @@ static void set_length(uint8_t *sheet, size_t number, size_t n)
         sheet[4 * number + i] = (uint8_t)(n >> 8 * i);
 }
 
-/* What a reader makes of one section: the bytes of its string, or -1 where the text is anything else than the section. */
+/* What a reader makes of one section: the bytes of its string, or -1 where the text is anything else than the
+   section. */
 static long read_section(const char **at, const char *name, int digits, uint8_t *into)
 {
     char head[64];

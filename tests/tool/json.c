@@ -1,5 +1,5 @@
-/* Whether standard input is one JSON text (RFC 8259), of bytes that a terminal shows, LF at the end of lines and nothing else: status 0, or 1 and the place
-   where it is not. */
+/* Whether standard input is one JSON text (RFC 8259), of bytes that a terminal shows, LF at the end of lines and
+   nothing else: status 0, or 1 and the place where it is not. */
 #include <stdio.h>
 #include <stdlib.h>
 #include <string.h>
@@ -96,8 +96,10 @@ static void value(void)
         list('[', ']', 0);
     else if (*at == '"')
         string();
-    else if (strncmp(at, "null", 4) == 0)
+    else if (strncmp(at, "null", 4) == 0 || strncmp(at, "true", 4) == 0)
         at += 4;
+    else if (strncmp(at, "false", 5) == 0)
+        at += 5;
     else if (*at == '0')
         at++;
     else if (*at >= '1' && *at <= '9')

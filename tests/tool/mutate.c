@@ -1,7 +1,8 @@
 /* Writes rules files that are broken at random: mutate SEED COUNT FOLDER FILE...
 
-   Each is one of the files, or a stretch of its lines, with one to eight edits: a byte set to any value, a byte that means something put in, bytes left
-   out, a line repeated, moved or cut, a piece of the file put elsewhere, line ends changed. They are FOLDER/1 to FOLDER/COUNT. */
+   Each is one of the files, or a stretch of its lines, with one to eight edits: a byte set to any value, a byte
+   that means something put in, bytes left out, a line repeated, moved or cut, a piece of the file put elsewhere,
+   line ends changed. They are FOLDER/1 to FOLDER/COUNT. */
 #include <stdint.h>
 #include <stdio.h>
 #include <stdlib.h>
