@@ -277,6 +277,7 @@ static void set_scene(const rules_file *file, size_t number, scene *s)
 static void diagnose_line(const bundle *b, verdict v, const scene *s, diagnosis *d)
 {
     d->at = find_spot(b, v, s);
+    d->also_file = d->file;
     reason_line(s, d);
     d->line = line_number(s->bytes, d->at);
     d->column = d->at - line_start(s->bytes, s->len, d->line) + 1;

@@ -95,9 +95,9 @@ static void show_line(const diagnosis *d)
     if (d->also == NULL)
         return;
     fprintf(stderr, "    %s: ", d->also);
-    put_place(d->file, d->also_line);
+    put_place(d->also_file, d->also_line);
     putc('\n', stderr);
-    put_line(d->file, d->also_line, (size_t)-1, none);
+    put_line(d->also_file, d->also_line, (size_t)-1, none);
 }
 
 void show_diagnosis(const diagnosis *d, const profile *p)
@@ -160,18 +160,26 @@ void json_string(FILE *to, const char *s, size_t n)
     putc('"', to);
 }
 
-void json_diagnosis(FILE *to, const diagnosis *d)
+static void json_file(FILE *to, const rules_file *file)
 {
     fputs("{\"file\":", to);
-    if (d->file != NULL)
-        json_string(to, d->file->name, strlen(d->file->name));
+    if (file != NULL)
+        json_string(to, file->name, strlen(file->name));
     else
         fputs("null", to);
+}
+
+void json_diagnosis(FILE *to, const diagnosis *d)
+{
+    json_file(to, d->file);
     fprintf(to, ",\"line\":%lu,\"column\":%lu,\"number\":%u,\"text\":", (unsigned long)d->line, (unsigned long)d->column, d->number);
     json_string(to, d->said, strlen(d->said));
     if (d->text != TEXTS)
         fprintf(to, ",\"option\":\"%s\"", text_options[d->text]);
-    if (d->also != NULL)
-        fprintf(to, ",\"also\":{\"line\":%lu,\"text\":\"%s\"}", (unsigned long)d->also_line, d->also);
+    if (d->also != NULL) {
+        fputs(",\"also\":", to);
+        json_file(to, d->also_file);
+        fprintf(to, ",\"line\":%lu,\"text\":\"%s\"}", (unsigned long)d->also_line, d->also);
+    }
     putc('}', to);
 }

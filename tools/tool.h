@@ -112,7 +112,8 @@ typedef struct {
     span mark;              /* the word that is meant, around or before the spot */
     int text;               /* MODEL to OPTIONS, or TEXTS */
     char said[MOST_SAID];
-    const char *also;       /* what `also_line` of the same file is, or NULL */
+    const char *also;       /* what another line that is shown is, or NULL */
+    const rules_file *also_file;
     size_t also_line;
 } diagnosis;
 
