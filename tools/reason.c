@@ -338,8 +338,7 @@ static void say_nearest(diagnosis *d, const uint8_t *bytes, span word, const cha
         }
 }
 
-/* The word of the heading that repeats a word's item, or gives layout or variant another index; empty where none
-   does. */
+/* Another word of the heading that has the same item; empty where there is none. */
 static span other_word(const scene *s, span word, const char *const *items)
 {
     const char *item = item_of(s->bytes, word, items);
