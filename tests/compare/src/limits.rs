@@ -1,6 +1,6 @@
 //! Listed cases: sizes at every limit and beyond.
 
-use crate::case::Case;
+use crate::case::{Case, MODEL, OPTIONS};
 
 const ROOM: usize = 2048;
 const FILE: usize = 65_536;
@@ -105,7 +105,7 @@ fn texts(list: &mut Vec<Case>) {
     let rules = "! option = symbols types\n* = %m%(l)%(v) +%m:all\nooo = +o +p\n";
     for length in [0, 1, 62, 63, 64, 65, 66, 129, 1022, 1023, 1024, 1025, 1026] {
         for field in [16, 63, 64, 65, 2000] {
-            for text in 1..5 {
+            for text in MODEL..=OPTIONS {
                 let mut case = Case::text(rules, ["pc", "us", "", "o"], ROOM);
                 case.inputs[text] = text_of(length, field).into_bytes();
                 list.push(case);
@@ -114,7 +114,7 @@ fn texts(list: &mut Vec<Case>) {
     }
     for length in 62..67 {
         for at in 0..4 {
-            for text in 1..5 {
+            for text in MODEL..=OPTIONS {
                 let mut fields = vec!["a".to_string(); 4];
                 fields[at] = x(length);
                 let mut case = Case::text(rules, ["pc", "us,fr,de,gb", "", "o"], ROOM);

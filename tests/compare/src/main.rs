@@ -4,10 +4,13 @@
 //! compare [--seed NUMBER] [--count NUMBER]
 //! compare stock RULES LIST
 //! compare show SEED INDEX
+//! compare second
 //! ```
 //!
-//! The exit status is 1 on any disagreement.
+//! `second` holds the second resolver alone to the written answers. The exit status
+//! is 1 on any disagreement.
 
+mod bundles;
 mod cards;
 mod case;
 mod check;
@@ -130,6 +133,7 @@ fn chosen(arguments: &[String]) -> Result<u64, String> {
             print_case(&generate::case(number(seed)?, number(index)?));
             Ok(0)
         }
+        ["second"] => vectors::second_alone(),
         _ => compare(&settings(arguments)?),
     }
 }
