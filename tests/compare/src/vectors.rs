@@ -7,7 +7,7 @@ use crate::run::{finish, spread, Failure, Tally};
 use crate::second::{self, Answer, Requests};
 
 /// Files of cases, and the requests under which their answers were written.
-const FILES: [(&str, &[u8], Requests); 6] = [
+const FILES: [(&str, &[u8], Requests); 7] = [
     (
         "base-edges.tsv",
         include_bytes!("../vectors/base-edges.tsv"),
@@ -16,6 +16,11 @@ const FILES: [(&str, &[u8], Requests); 6] = [
     (
         "base-random.tsv",
         include_bytes!("../vectors/base-random.tsv"),
+        Requests::NONE,
+    ),
+    (
+        "base-changed.tsv",
+        include_bytes!("../vectors/base-changed.tsv"),
         Requests::NONE,
     ),
     (
@@ -107,16 +112,18 @@ fn cases(name: &str, bytes: &[u8]) -> Result<Vec<(Case, Answer)>, String> {
     })
 }
 
-/// Both resolvers against a written answer: the second under the requests of
-/// which it was written, the library where it holds under those that have landed.
+/// Both resolvers against a written answer: the second under the requests for
+/// which it was written, the library if it holds under those that have landed too.
 fn compare(
     (index, case, expected): (u64, &Case, &Answer),
     requests: Requests,
     tally: &mut Tally,
 ) {
-    tally.count(expected);
     let differs = case.second_under(requests) != *expected;
     let due = takes(&case.inputs[BUNDLE]) && case.second() == *expected;
+    if due {
+        tally.count(expected);
+    }
     if differs || (due && !complaints(case, expected).is_empty()) {
         tally.failures.push(Failure {
             index,
@@ -127,11 +134,11 @@ fn compare(
 }
 
 fn check_compare(index: u64, case: &Case, expected: &Checked, tally: &mut Tally) {
-    tally.cases += 1;
     let bundle = &case.inputs[BUNDLE];
     let differs = second::check(bundle, case.paths(), case.room, Requests::ALL) != *expected;
     let due = LANDED.bundles
         && second::check(bundle, case.paths(), case.room, LANDED) == *expected;
+    tally.cases += u64::from(due);
     if differs || (due && !check_complaints(case, case.room, expected).is_empty()) {
         let (number, place, name) = expected;
         tally.failures.push(Failure {
