@@ -263,7 +263,11 @@ fn make_line_ends(rng: &mut Prng) -> Pair {
         let files: Vec<(&[u8], Vec<u8>)> = files.iter().map(|f| (f.0, plain(f.1))).collect();
         case.inputs[BUNDLE] = pack(&files);
     }
-    let which = if rng.chance(60) { 0xff } else { rng.next() as u8 };
+    let which = if rng.chance(60) {
+        0xff
+    } else {
+        rng.next() as u8
+    };
     let other = vec![vec![which]];
     Pair { case, other }
 }

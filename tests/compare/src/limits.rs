@@ -177,7 +177,8 @@ fn groups(list: &mut Vec<Case>) {
     }
 }
 
-/// Up to 64 names that are hard to tell apart, as groups and as options, listed in several orders: each of them is asked for, and names between them.
+/// Up to 64 names that are hard to tell apart, as groups and as options, listed in
+/// several orders: each of them is asked for, and names between them.
 fn names(list: &mut Vec<Case>) {
     let letters: Vec<char> = ('0'..='9')
         .chain('A'..='Z')
@@ -258,7 +259,11 @@ fn totals(list: &mut Vec<Case>) {
     }
     for total in [TOTAL - 1, TOTAL, TOTAL + 1, TOTAL + 2] {
         let shared = in_five(total);
-        for more in ["", "! model = symbols\n* = s\n", "! option = types\n* = %v[3]\n* = +t\n"] {
+        for more in [
+            "",
+            "! model = symbols\n* = s\n",
+            "! option = types\n* = %v[3]\n* = +t\n",
+        ] {
             for room in [0, TOTAL - 1, TOTAL, TOTAL + 1, 2 * TOTAL] {
                 let rules = format!("{shared}{more}");
                 list.push(Case::text(&rules, [&model, "us", "", ""], room));
@@ -297,7 +302,8 @@ fn additions(component: &str, length: usize) -> String {
     rules
 }
 
-/// Texts around 1,024 bytes, and around its multiples: a resolve keeps texts up to this length in a region of their own until their lengths are known.
+/// Texts around 1,024 bytes, and around its multiples: a resolve keeps texts up to
+/// this length in a region of their own until their lengths are known.
 fn long_texts(list: &mut Vec<Case>) {
     let model = "m".repeat(64);
     let short = "! model = keycodes types compat symbols geometry\n* = k t c s g\n";

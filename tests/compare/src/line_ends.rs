@@ -67,13 +67,23 @@ pub fn everywhere() -> Vec<Case> {
         (FILE, ["pc", "us,fr,de", "", "o2,o1"]),
         (PROGRAM, PROGRAM_PROFILE),
     ] {
-        for spelling in ["\r\n", "\r\r\n", "\r", "\n\r", "\\\r\n", "\r\\\n", "\\\r\r\n", " \r\n"] {
+        for spelling in [
+            "\r\n", "\r\r\n", "\r", "\n\r", "\\\r\n", "\r\\\n", "\\\r\r\n", " \r\n",
+        ] {
             list.push(Case::text(&file.replace('\n', spelling), profile, ROOM));
             for at in 0..=file.len() {
                 let (before, behind) = file.split_at(at);
-                list.push(Case::text(&format!("{before}{spelling}{behind}"), profile, ROOM));
+                list.push(Case::text(
+                    &format!("{before}{spelling}{behind}"),
+                    profile,
+                    ROOM,
+                ));
                 if let Some(behind) = behind.strip_prefix('\n') {
-                    list.push(Case::text(&format!("{before}{spelling}{behind}"), profile, ROOM));
+                    list.push(Case::text(
+                        &format!("{before}{spelling}{behind}"),
+                        profile,
+                        ROOM,
+                    ));
                 }
             }
         }
@@ -101,7 +111,9 @@ pub fn everywhere() -> Vec<Case> {
 fn long(list: &mut Vec<Case>) {
     for length in 254..259 {
         let word = "x".repeat(length);
-        for end in ["\r\n", "\r", "\\\r\n", "\\\r", "\r\r\n", "//\r\n", " //\r\n"] {
+        for end in [
+            "\r\n", "\r", "\\\r\n", "\\\r", "\r\r\n", "//\r\n", " //\r\n",
+        ] {
             let rules = format!("! model = symbols\n* = {word}{end}");
             list.push(Case::text(&rules, ["pc", "us", "", ""], ROOM));
             let rules = format!("! $g = {word}{end}! model = symbols\r\n$g = a{end}");

@@ -3,7 +3,7 @@
 //! ```text
 //! compare [--seed NUMBER] [--count NUMBER]
 //! compare stock RULES LIST
-//! compare show SEED INDEX
+//! compare show [bundle] SEED INDEX
 //! compare second
 //! ```
 //!
@@ -74,7 +74,10 @@ const NEVER: &[&str] = match LANDED.bundles {
 
 fn bundle_parts(seed: u64, count: u64) -> Vec<(&'static str, Tally)> {
     let make = |index| bundles::case(seed, index);
-    let mut parts = vec![("generated bundles", run::run("generated bundles", count, &make))];
+    let mut parts = vec![(
+        "generated bundles",
+        run::run("generated bundles", count, &make),
+    )];
     for (name, list) in [
         ("broken bundles", bundle_edges::broken()),
         ("include lines", bundle_edges::lines()),
@@ -83,10 +86,13 @@ fn bundle_parts(seed: u64, count: u64) -> Vec<(&'static str, Tally)> {
         ("groups across files", bundle_edges::groups()),
         ("sizes of bundles", bundle_edges::sizes()),
         ("fault orders of bundles", bundle_edges::fault_orders()),
-        ("many readings", bundle_edges::many_readings()),
     ] {
         parts.push((name, run_list(name, &list)));
     }
+    let many = bundle_edges::many_readings();
+    parts.push(("many readings", run_list("many readings", &many)));
+    let slowest = run::slowest(&many);
+    println!("compare: many readings: the slowest resolve takes {slowest} ms");
     parts
 }
 
@@ -137,7 +143,11 @@ fn compare(settings: &Settings) -> Result<u64, String> {
     print_counts("answers", answers.clone());
     let never: Vec<&str> = answers.filter(|a| a.1 == 0).map(|a| a.0).collect();
     if never != NEVER {
-        return Err(format!("never answered: {}; expected: {}", never.join(", "), NEVER.join(", ")));
+        return Err(format!(
+            "never answered: {}; expected: {}",
+            never.join(", "),
+            NEVER.join(", ")
+        ));
     }
     println!(
         "compare: accepted with some text {}, with a base and additions in one component {}",
@@ -167,6 +177,10 @@ fn chosen(arguments: &[String]) -> Result<u64, String> {
         ["stock", rules, list] => stock::run(rules, list),
         ["show", seed, index] => {
             print_case(&generate::case(number(seed)?, number(index)?));
+            Ok(0)
+        }
+        ["show", "bundle", seed, index] => {
+            print_case(&bundles::case(number(seed)?, number(index)?));
             Ok(0)
         }
         ["second"] => vectors::second_alone(),

@@ -43,7 +43,9 @@ fn rule(heading: &str, which: usize, components: usize) -> String {
         _ => layout,
     };
     let words: Vec<&str> = heading.split(' ').map(word).collect();
-    let index_word = ["any", "later", "first", "single"].iter().any(|w| heading.contains(w));
+    let index_word = ["any", "later", "first", "single"]
+        .iter()
+        .any(|w| heading.contains(w));
     let value = if index_word { ranged } else { plain };
     let values = [value, ["+w", "k"][which % 2]];
     format!("{} = {}\n", words.join(" "), values[..components].join(" "))
@@ -53,9 +55,8 @@ pub fn all() -> Vec<Case> {
     let mut list = Vec::new();
     for heading in HEADINGS {
         for number in 0..6 * 6 * 6 {
-            for turn in 0..6 {
+            for (turn, layouts) in LAYOUTS.iter().enumerate() {
                 let at = 5 * number + 7 * turn;
-                let layouts = LAYOUTS[turn];
                 let options = OPTIONS[at % 7];
                 let components = 1 + at % 2;
                 let right = ["symbols", "symbols types"][at % 2];

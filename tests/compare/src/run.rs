@@ -2,6 +2,7 @@
 //! disagreement made small.
 
 use std::thread;
+use std::time::Instant;
 
 use crate::case::{answer_row, Case, BUNDLE};
 use crate::check::{call, complaints};
@@ -122,6 +123,16 @@ pub fn run_list(name: &str, list: &[Case]) -> Tally {
     run(name, list.len() as u64, &|index| {
         list[index as usize].clone()
     })
+}
+
+/// The longest time, in milliseconds, that the library takes for one of the cases.
+pub fn slowest(list: &[Case]) -> u128 {
+    let time = |case: &Case| {
+        let start = Instant::now();
+        call(case, 40, 0);
+        start.elapsed().as_millis()
+    };
+    list.iter().map(time).max().unwrap_or(0)
 }
 
 /// Prints the part's first disagreements, each made small.

@@ -87,7 +87,8 @@ fn bundle_row(fields: &[&[u8]]) -> Option<(Case, Answer)> {
 }
 
 fn check_row(fields: &[&[u8]]) -> Option<(Case, Checked)> {
-    let [bundle, home, extra, system, name] = texts(&[fields.get(..4)?, fields.get(8..)?].concat())?;
+    let [bundle, home, extra, system, name] =
+        texts(&[fields.get(..4)?, fields.get(8..)?].concat())?;
     let paths = [&home, &extra, &system].map(Vec::as_slice);
     let case = Case::bundled(bundle, paths, [b""; 4], number(fields[4])? as usize);
     let place = (number(fields[6])? << 32) + number(fields[7])?;
@@ -114,11 +115,7 @@ fn cases(name: &str, bytes: &[u8]) -> Result<Vec<(Case, Answer)>, String> {
 
 /// Both resolvers against a written answer: the second under the requests for
 /// which it was written, the library if it holds under those that have landed too.
-fn compare(
-    (index, case, expected): (u64, &Case, &Answer),
-    requests: Requests,
-    tally: &mut Tally,
-) {
+fn compare((index, case, expected): (u64, &Case, &Answer), requests: Requests, tally: &mut Tally) {
     let differs = case.second_under(requests) != *expected;
     let due = takes(&case.inputs[BUNDLE]) && case.second() == *expected;
     if due {
@@ -136,8 +133,7 @@ fn compare(
 fn check_compare(index: u64, case: &Case, expected: &Checked, tally: &mut Tally) {
     let bundle = &case.inputs[BUNDLE];
     let differs = second::check(bundle, case.paths(), case.room, Requests::ALL) != *expected;
-    let due = LANDED.bundles
-        && second::check(bundle, case.paths(), case.room, LANDED) == *expected;
+    let due = LANDED.bundles && second::check(bundle, case.paths(), case.room, LANDED) == *expected;
     tally.cases += u64::from(due);
     if differs || (due && !check_complaints(case, case.room, expected).is_empty()) {
         let (number, place, name) = expected;
