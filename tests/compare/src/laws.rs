@@ -1,5 +1,6 @@
 //! Laws between calls of the library: joined first files, options in other
-//! order, LF made CR LF, a call after another call, and two threads at once.
+//! order, includes written out, LF made CR LF, a call after another call, and two
+//! threads at once.
 
 use std::collections::HashSet;
 use std::sync::Barrier;
@@ -12,7 +13,7 @@ use crate::generate::{self, valid_rows, write};
 use crate::library::LANDED;
 use crate::prng::Prng;
 use crate::run::spread;
-use crate::second::bundle::{pack, unpack};
+use crate::second::bundle::{pack, unpack, written_path};
 use crate::second::{self, Answer, Text};
 use crate::shrink::shrink;
 use crate::words::{self, GROUPS, LATER_GROUPS};
@@ -67,6 +68,14 @@ const LINE_ENDS: Law = Law {
     other: "files to change",
     make: make_line_ends,
     look: line_ends,
+};
+
+/// Once #101 has landed.
+const WRITTEN_OUT: Law = Law {
+    name: "includes written out",
+    other: "",
+    make: make_written_out,
+    look: written_out,
 };
 
 /// The case with its first file changed.
@@ -245,6 +254,75 @@ fn options(pair: &Pair) -> Outcome {
     Outcome::Broken(vec![
         format!("options: {}", answer_row(&one.answer())),
         format!("others:  {}", answer_row(&two.answer())),
+    ])
+}
+
+// Includes written out.
+
+fn make_written_out(rng: &mut Prng) -> Pair {
+    let mut case = bundles::case(rng.next(), rng.next());
+    if let Some(files) = unpack(&case.inputs[BUNDLE]) {
+        let plain = |rules: &[u8]| -> Vec<u8> {
+            let lines: Vec<&[u8]> = rules.split(|&b| b == b'\n').collect();
+            let unjoined = lines.iter().map(|line| match line.strip_suffix(b"\\") {
+                Some(joined) => [joined, b" "].concat(),
+                None => [line, &b"\n"[..]].concat(),
+            });
+            unjoined.collect::<Vec<Vec<u8>>>().concat()
+        };
+        let files: Vec<(&[u8], Vec<u8>)> = files.iter().map(|f| (f.0, plain(f.1))).collect();
+        case.inputs[BUNDLE] = pack(&files);
+    }
+    let other = Vec::new();
+    Pair { case, other }
+}
+
+/// The file with the named files in place of its include lines, each ended by LF;
+/// none where a line is joined, an include finds nothing or it grows too long.
+fn flat(case: &Case, file: &[u8], depth: usize) -> Option<Vec<u8>> {
+    let files = unpack(&case.inputs[BUNDLE])?;
+    let mut text = Vec::new();
+    for line in file.split(|&b| b == b'\n') {
+        let heading = line.trim_ascii_start().strip_prefix(b"!");
+        let mut words = heading.unwrap_or_default().split(|b| b" \t\r".contains(b));
+        let mut word = || words.find(|word| !word.is_empty());
+        if word() == Some(b"include") {
+            let path = written_path(word()?, case.paths())?;
+            let included = files.iter().find(|file| file.0 == path)?;
+            let deeper = depth.checked_sub(1)?;
+            text.extend(flat(case, included.1, deeper)?);
+        } else {
+            text.extend(line);
+            text.push(b'\n');
+        }
+        let joined = line.ends_with(b"\\") || line.ends_with(b"\\\r");
+        if joined || text.len() > 65_536 {
+            return None;
+        }
+    }
+    Some(text)
+}
+
+/// Where the lines are good, the written-out file gives the same.
+fn written_out(pair: &Pair) -> Outcome {
+    let seen = call(&pair.case, 44, 8);
+    let number = seen.answer().number;
+    let files = unpack(&pair.case.inputs[BUNDLE]).unwrap_or_default();
+    if ![0, 11].contains(&number) || files.len() < 2 {
+        return Outcome::Skipped;
+    }
+    let Some(text) = flat(&pair.case, files[0].1, 5) else {
+        return Outcome::Skipped;
+    };
+    let lone = Case::new(&text, pair.case.profile(), pair.case.room);
+    let out = call(&lone, 44, 8);
+    if seen.same(&out) {
+        return Outcome::Holds;
+    }
+    Outcome::Broken(vec![
+        format!("text:   {}", escape(&text)),
+        format!("bundle: {}", answer_row(&seen.answer())),
+        format!("text's: {}", answer_row(&out.answer())),
     ])
 }
 
@@ -437,8 +515,9 @@ fn two_threads(seed: u64, count: u64) -> Looked {
 }
 
 pub fn run(seed: u64, count: u64) -> Vec<Looked> {
+    let written_out = LANDED.bundles.then_some(&WRITTEN_OUT);
     let line_ends = LANDED.cr_lf.then_some(&LINE_ENDS);
-    let laws = LAWS.iter().chain(line_ends);
+    let laws = LAWS.iter().chain(written_out).chain(line_ends);
     let mut all: Vec<Looked> = laws.map(|law| run_law(law, seed, count)).collect();
     all.push(two_threads(seed, count));
     all
