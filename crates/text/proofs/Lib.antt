@@ -4,6 +4,7 @@ pub mod Numbers
 pub mod Comparing
 pub mod Positions
 pub mod ByteKinds
+pub mod Feeds
 pub mod Readers
 pub mod Entries
 pub mod Pairs
