@@ -9,3 +9,4 @@ pub mod Readers
 pub mod Entries
 pub mod Pairs
 pub mod Passing
+pub mod LineEnds
