@@ -6,7 +6,7 @@ use mathlib.Core.Path.{_≡_, refl, sym, ap, _∙_}
 use mathlib.Core.List.{List, [], _∷_, _++_, map}
 use mathlib.Core.Bool.{Bool, true, false, and-false}
 use lib.ListN.{length, getD, drop, length-drop}
-use lib.Seq.{drop-drop, getD-drop}
+use lib.Seq.{drop-drop}
 use lib.Dec.{eqb}
 use borrow.Author.Tests.{ne-eqb}
 use Rattle.text.specs.declared.Refusal.{Refusal}
@@ -17,7 +17,7 @@ use Rattle.text.specs.Marks.{marks}
 use Rattle.text.specs.Lines.{Line, linesOf, words, heading}
 use Rattle.text.specs.Reading.{left, ahead, follow, Fenced, Opens}
 use Rattle.text.proofs.Joined.{shifted, linesOf-shift}
-use Rattle.text.proofs.Readers.{lineAt, line-first}
+use Rattle.text.proofs.Readers.{lineAt, line-first, fence-part}
 use Rattle.text.proofs.Lists.{no, rest-cons}
 use Rattle.text.proofs.Positions.{length-part, part-cons, part-of-part}
 use Rattle.rules.specs.declared.Present.{Present}
@@ -34,18 +34,6 @@ use Rattle.rules.specs.Plain.{LineRead}
 use Rattle.rules.proofs.Numbers.{goodEntry, entry-good}
 
 -- the fence in a part of the file
-pub fence-part : (s : Text) (f from : ℕ) → Fenced s f → Fenced (drop from s) (f - from)
-fence-part s f from v =
-    record {
-      high = simp length-drop (omega (arith, v .high));
-      last = λ (h : 0 < f - from).
-          let e : from + (f - from - 1) ≡ f - 1 = omega arith in
-          getD-drop from s (f - from - 1) 0 ∙ (rw e (v .last (omega arith)));
-      free = λ (h : 1 < f - from) q.
-          let e : from + (f - from - 2) ≡ f - 2 = omega arith in
-          v .free (omega arith) (rw e at (sym (getD-drop from s (f - from - 2) 0) ∙ q));
-    }
-
 pub fence-tail : (s : Text) (f from n : ℕ) → Fenced s f → n ≡ f - from → (x : Text) → x ≡ drop from s → Fenced x n
 fence-tail s f from n v e x xe = rw (xe, e) (fence-part s f from v)
 

@@ -11,6 +11,7 @@ use super::words::is_ordinary;
 use text::Plain;
 use text::bytes::kind;
 use text::reader::byte_word;
+use text::reader::feed_end;
 use text::reader::plain_word;
 use text::reader::skip_fast;
 use text::reader::value_word;
@@ -110,10 +111,7 @@ pub fn rule_end(s: &[u8], t: &[u8; 512], fence: usize, from: usize, p: Present) 
         return 0;
     }
     let e = skip_fast(s, t, fence, b);
-    if s[e] != 10 {
-        return 0;
-    }
-    e + 1
+    feed_end(s, e)
 }
 
 // A line under the heading p, from its start on.
@@ -126,14 +124,11 @@ pub fn line_end(s: &[u8], t: &[u8; 512], fence: usize, from: usize, p: Present) 
     }
     let i = skip_fast(s, t, fence, from);
     let b = s[i];
-    if b == 10 {
-        return i + 1;
-    }
     if b == 33 {
         return 0;
     }
     if kind(t, b) != 0 {
-        return 0;
+        return feed_end(s, i);
     }
     if p.form == 0 {
         return 0;

@@ -96,6 +96,13 @@ feed-at s i z h n =
     record { low = omega arith; high = omega arith; cases = inr w })
     (feed-cases s i z h n)
 
+-- it begins with no backslash
+pub feed-slash : (s : List ℕ) (i z : ℕ) → FeedAt s i z → getD s i 0 ≡ 92 → ⊥
+feed-slash s i z v e =
+    ⊎-elim (λ (w : (z ≡ i + 1) × (getD s i 0 ≡ 10)). differ (getD s i 0) 10 92 refl (w .1) e)
+    (λ (w : (z ≡ i + 2) × ((getD s i 0 ≡ 13) × (getD s (i + 1) 0 ≡ 10))). differ (getD s i 0) 13 92 refl (w .1 .0) e)
+    (v .cases)
+
 -- there is none
 pub feed-none : (s : List ℕ) (i z : ℕ) → z ≡ feedEnd s i → z ≡ 0 → endsLine (getD s i 0) (first (drop (i + 1) s)) ≡ false
 unfolding feedEnd endsLine

@@ -10,6 +10,7 @@ pub struct Line {
     pub words: Vec<Bytes>,
 }
 
+/// A line end is LF, with a CR directly before it if there is one.
 pub fn split_lines(rules: &[u8]) -> Vec<Line> {
     let physical: Vec<&[u8]> = rules.split(|&b| b == b'\n').collect();
     let mut lines = Vec::new();
@@ -23,7 +24,11 @@ pub fn split_lines(rules: &[u8]) -> Vec<Line> {
         };
         loop {
             let ends_with_lf = next + 1 < physical.len();
-            let joins = split_words(physical[next], ends_with_lf, &mut line);
+            let content = match physical[next] {
+                [before @ .., b'\r'] if ends_with_lf => before,
+                whole => whole,
+            };
+            let joins = split_words(content, ends_with_lf, &mut line);
             next += 1;
             if !joins {
                 break;
