@@ -5,7 +5,7 @@ use crate::check::complaints;
 use crate::run::{finish, spread, Failure, Tally};
 use crate::second::Answer;
 
-const FILES: [(&str, &[u8]); 2] = [
+const FILES: [(&str, &[u8]); 3] = [
     (
         "base-edges.tsv",
         include_bytes!("../vectors/base-edges.tsv"),
@@ -14,6 +14,7 @@ const FILES: [(&str, &[u8]); 2] = [
         "base-random.tsv",
         include_bytes!("../vectors/base-random.tsv"),
     ),
+    ("103.tsv", include_bytes!("../vectors/103.tsv")),
 ];
 
 fn read(name: &str, bytes: &[u8]) -> Result<Vec<(Case, Answer)>, String> {
