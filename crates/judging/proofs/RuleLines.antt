@@ -12,9 +12,10 @@ use Rattle.text.specs.Bytes.{Text, Words}
 use Rattle.text.specs.Marks.{marks}
 use Rattle.text.specs.Lines.{linesOf}
 use Rattle.text.specs.Words.{wordsFault}
-use Rattle.text.specs.Reading.{left, ahead, follow, Fenced, NoWord, Opens}
+use Rattle.text.specs.Reading.{left, ahead, follow, NoWord, Opens}
 use Rattle.text.proofs.Joined.{shifted, linesOf-shift}
-use Rattle.text.proofs.Readers.{lineAt, line-first, blanks-start, between-skip, between-feed, fence-in}
+use Rattle.text.proofs.Feeds.{FeedAt}
+use Rattle.text.proofs.Readers.{lineAt, line-first, blanks-start, between-skip, between-over}
 use Rattle.rules.specs.declared.Present.{Present}
 use Rattle.rules.specs.declared.Split.{Split}
 use Rattle.rules.specs.Entries.{entryOf}
@@ -29,14 +30,13 @@ use Rattle.judging.specs.Lines.{RestRead, WordsJudged, RuleLineRead, Lin
 
 -- the rest of a line at one go
 
-pub rest-none : (s : Text) (f from : ℕ) (p : Present) → Fenced s f → from < f → getD s from 0 ≡ 10 → RestRead s from p (from + 1)
-rest-none s f from p g h e =
-    let j = fence-in s f from g h in
-    let x : (m : ℕ) → m ≤ from + 1 → NoWord s from m (from + 1) (m + 1) =
-    λ m y. between-feed s from m from m (between-skip s from m from y (blanks-start s from (omega arith))) j e in
+pub rest-none : (s : Text) (from : ℕ) (p : Present) (z : ℕ) → FeedAt s from z → RestRead s from p z
+rest-none s from p z e =
+    let x : (m : ℕ) → m ≤ from + 1 → NoWord s from m z (m + 1) =
+    λ m y. between-over s from m from m z (between-skip s from m from y (blanks-start s from (omega (arith, e .low, e .high)))) e in
     record {
-      low = omega arith;
-      high = omega arith;
+      low = e .low;
+      high = e .high;
       onto = λ m y. x m y .onto;
       passes = λ n. rw (x 0 (omega arith) .none) (passes-none p n);
     }

@@ -19,6 +19,7 @@ use rules::judge::rule_fault;
 use rules::lines::split_line;
 use rules::plain::rule_end;
 use text::bytes::kind;
+use text::reader::feed_end;
 use text::reader::open_line;
 
 // The rest of a line at one go, from its first byte that is no blank: where the next line starts, or 0, which says nothing.
@@ -29,12 +30,8 @@ fn rest_end(s: &[u8], t: &[u8; 512], fence: usize, from: usize, p: Present) -> u
     if fence <= from {
         return 0;
     }
-    let b = s[from];
-    if b == 10 {
-        return from + 1;
-    }
-    if kind(t, b) != 0 {
-        return 0;
+    if kind(t, s[from]) != 0 {
+        return feed_end(s, from);
     }
     if p.form == 0 {
         return 0;

@@ -6,7 +6,7 @@ use mathlib.Core.List.{List, [], _∷_, _++_, map}
 use lib.ListN.{replicate}
 use Rattle.text.specs.Bytes.{bytes, same, empty, first, rest, allOf, anyOf, concatMap, Text}
 use Rattle.text.specs.Lines.{run, words, heading, feeds, inside, linesOf, lines}
-use Rattle.text.specs.Marks.{classOf, step, marks}
+use Rattle.text.specs.Marks.{endsLine, classOf, step, marks}
 use Rattle.text.specs.Refusals.{refusedIf, refusedAs}
 use Rattle.text.specs.Words.{badByte, tooLong, wordsFault}
 use Rattle.profile.specs.Profile.{push, fields, dropEmpty, optionsOf, profileOf, layoutCount, Texts, textsOf}
@@ -105,5 +105,5 @@ examples =
     program ∷ []
 
 pub checked : map resolved examples ≡ map (λ e. e .wanted) examples
-unfolding examples symbols within layouts word program profile resolved outcome pairs bytes same empty first rest allOf anyOf concatMap run words heading feeds inside linesOf lines classOf step marks refusedIf refusedAs badByte tooLong wordsFault push fields dropEmpty optionsOf profileOf layoutCount outside longField badText textRefusals countRefusals profileRefusals before after setShape setEntry groupEntry headingEntry ruleEntry entryOf defined withGroup leftWords rightWords ruleShape shapeFault ruleFault orphans headFaults faults lineFaults fileRefusals decimal upFrom numberedIn indexOf leftItem componentOf columnsIn indexesIn columnNumber indexNumber knownIndex knownItem distinct alike firstIndex headingOf goodItems hasWord whichOf variableOf whichLength variableLength isPrefix inParens pieceAfter pieceLength pieces badWhich badVariable badPiece malformed addEntry sections isEquals isStar hasDollar ordinary isGroupName leftWord isSign signed cuts endsAll stem copy copies spread expanded choose valueOf pieceText filled textsFrom tenTexts sum joined total noRoom refusals firstOf answer numberOf placeOf valuesOf base additions fired ruleFires firesAt setFires ruleByRule headFires firings fileFirings layoutsAt perLayout layoutsOf members wordMatches valueMatches columnMatches ruleMatches isOptions
+unfolding examples symbols within layouts word program profile resolved outcome pairs bytes same empty first rest allOf anyOf concatMap run words heading feeds inside linesOf lines classOf step marks refusedIf refusedAs badByte tooLong wordsFault push fields dropEmpty optionsOf profileOf layoutCount outside longField badText textRefusals countRefusals profileRefusals before after setShape setEntry groupEntry headingEntry ruleEntry entryOf defined withGroup leftWords rightWords ruleShape shapeFault ruleFault orphans headFaults faults lineFaults fileRefusals decimal upFrom numberedIn indexOf leftItem componentOf columnsIn indexesIn columnNumber indexNumber knownIndex knownItem distinct alike firstIndex headingOf goodItems hasWord whichOf variableOf whichLength variableLength isPrefix inParens pieceAfter pieceLength pieces badWhich badVariable badPiece malformed addEntry sections isEquals isStar hasDollar ordinary isGroupName leftWord isSign signed cuts endsAll stem copy copies spread expanded choose valueOf pieceText filled textsFrom tenTexts sum joined total noRoom refusals firstOf answer numberOf placeOf valuesOf base additions fired ruleFires firesAt setFires ruleByRule headFires firings fileFirings layoutsAt perLayout layoutsOf members wordMatches valueMatches columnMatches ruleMatches isOptions endsLine
 checked = refl

@@ -8,7 +8,8 @@ use lib.ListN.{length, drop, getD, replicate}
 use Rattle.text.specs.declared.Refusal.{Refusal}
 use Rattle.text.specs.Limits.{longestFile, longestTotal, mostGroups, mostLayouts, mostOptions}
 use Rattle.text.specs.Bytes.{Text, apart}
-use Rattle.text.specs.Lines.{closed}
+use Rattle.text.specs.Lines.{closed, crlf, noReturn}
+use Rattle.text.proofs.LineEnds.{crlf-closed}
 use Rattle.profile.specs.Profile.{Texts, profileOf, layoutCount, optionsOf}
 use Rattle.profile.specs.Options.{Alike, Within, withOptions}
 use Rattle.profile.proofs.Counts as counted
@@ -24,6 +25,7 @@ use Rattle.answers.proofs.Accepted as fits
 use Rattle.answers.proofs.Answers as laws
 use Rattle.resolver.proofs.Resolutions as resolves
 use Rattle.answers.proofs.Stretch as parts
+use Rattle.answers.proofs.LineEnds as ends
 use Rattle.xkbrules.specs.Sheet.{sheetLength, entryAnswer, sheetAfter, lengthsIn, componentCode}
 use Rattle.xkbrules.proofs.Sheet as sheets
 use Rattle.xkbrules.proofs.Entry as entry
@@ -172,6 +174,23 @@ module _ (d f : Text) (t : Texts) (o o′ : Text)
       (sheetAfter s (entryAnswer (length d) (length s) f (withOptions t o)) ≡ sheetAfter s (entryAnswer (length d) (length s) f (withOptions t o′)))
   options-entry s = let e = entry.entry-options (length d) (length s) f t o o′ alike within within′ in (same-answers d _ _ e, ap (sheetAfter s) e)
 
+-- Document 02, #103: "A file without any CR, with every LF then made CR LF, resolves as the original if it stays within the size.", refusals included.
+module _ (d f : Text) (t : Texts)
+    (none : noReturn f ≡ true)
+    (size : length (crlf f) ≤ longestFile) where
+  pub line-ends : Same d (answer (length d) (crlf f) t) (answer (length d) f t)
+  line-ends = same-answers d _ _ (ends.crlf-answer f t none size (length d))
+
+  -- so for C, and the sheets have the same bytes
+  pub line-ends-entry : (s : Text) →
+      Same d (entryAnswer (length d) (length s) (crlf f) t) (entryAnswer (length d) (length s) f t) ×
+      (sheetAfter s (entryAnswer (length d) (length s) (crlf f) t) ≡ sheetAfter s (entryAnswer (length d) (length s) f t))
+  line-ends-entry s = let e = entry.entry-lines (length d) (length s) f t none size in (same-answers d _ _ e, ap (sheetAfter s) e)
+
+-- "Demand 3 counts CR LF as one newline.": the first file may end with either.
+pub line-ends-closed : (f : Text) → noReturn f ≡ true → closed (crlf f) ≡ closed f
+line-ends-closed = crlf-closed
+
 -- The same of the running resolve. The contract of `resolve` is `Resolved f t d d′ r`: for the file f and the four texts t it answers r, and the buffer
 -- goes from d to d′.
 
@@ -210,3 +229,8 @@ module _ (a b : Text) (t : Texts) (c c′ : Text) (x : Outcome) (e e′ : Text) 
 pub options-resolve : (f : Text) (t : Texts) (o o′ d c′ : Text) (x : Outcome) (e′ : Text) (y : Outcome) → Alike o o′ → Within o → Within o′ →
     Resolved f (withOptions t o) d c′ x → Resolved f (withOptions t o′) d e′ y → (x ≡ y) × (c′ ≡ e′)
 options-resolve f t o o′ d c′ x e′ y alike within within′ v w = resolves.options-resolve f t o o′ d c′ x e′ y alike within within′ v w
+
+-- #103, line ends: two resolves of a file and of the same with CR LF, with buffers of the same bytes.
+pub line-ends-resolve : (f : Text) (t : Texts) (d c′ : Text) (x : Outcome) (e′ : Text) (y : Outcome) → noReturn f ≡ true → length (crlf f) ≤ longestFile →
+    Resolved (crlf f) t d c′ x → Resolved f t d e′ y → (x ≡ y) × (c′ ≡ e′)
+line-ends-resolve f t d c′ x e′ y none size = ends.crlf-resolve f t none size d c′ x e′ y

@@ -12,23 +12,12 @@ use Rattle.text.specs.Bytes.{Text, Words}
 use Rattle.text.specs.Refusals.{refusedIf, refusedAs, firstRefusal}
 use Rattle.text.specs.Lines.{Line}
 use Rattle.text.specs.Reading.{Fenced}
+use Rattle.text.proofs.Readers.{fence-part}
 use Rattle.rules.specs.declared.Present.{Present}
 use Rattle.rules.specs.Entries.{entryOf}
 use Rattle.rules.specs.Checking.{lineOf, lineFault, presentAfter, namesAfter, checkFrom}
 
 -- the fence in a part of the file
-pub fence-part : (s : Text) (f from : ℕ) → Fenced s f → Fenced (drop from s) (f - from)
-fence-part s f from v =
-    record {
-      high = simp length-drop (omega (arith, v .high));
-      last = λ (h : 0 < f - from).
-          let e : from + (f - from - 1) ≡ f - 1 = omega arith in
-          getD-drop from s (f - from - 1) 0 ∙ (rw e (v .last (omega arith)));
-      free = λ (h : 1 < f - from) q.
-          let e : from + (f - from - 2) ≡ f - 2 = omega arith in
-          v .free (omega arith) (rw e at (sym (getD-drop from s (f - from - 2) 0) ∙ q));
-    }
-
 pub fence-tail : (s : Text) (f from n : ℕ) → Fenced s f → n ≡ f - from → (x : Text) → x ≡ drop from s → Fenced x n
 fence-tail s f from n v e x xe = rw (xe, e) (fence-part s f from v)
 

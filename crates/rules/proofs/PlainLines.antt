@@ -12,7 +12,8 @@ use Rattle.text.specs.Words.{wordsFault}
 use Rattle.text.specs.Reading.{left, ahead, follow, faultOf, kindOf, Fenced, Blanks, Skipped, PlainFound, ByteWord, NoWord, Opens}
 use Rattle.text.proofs.Lists.{no, and-both}
 use Rattle.text.proofs.ByteKinds.{not-bad, kind-zero}
-use Rattle.text.proofs.Readers.{lineAt, line-first, fault-cons, fault-nil, lower-zero, between-skip, between-feed, opened-skip, opened-same, fence-in}
+use Rattle.text.proofs.Feeds.{FeedAt, feed-slash}
+use Rattle.text.proofs.Readers.{lineAt, line-first, fault-cons, fault-nil, lower-zero, blanks-start, between-skip, between-over, opened-skip, opened-same, fence-in}
 use Rattle.rules.specs.declared.Present.{Present}
 use Rattle.rules.specs.Words.{isEquals, ordinary, leftWord}
 use Rattle.rules.specs.Percent.{pieces, badPiece, malformed}
@@ -108,19 +109,18 @@ module _ (s : Text) (f : ℕ) (i : Bool) (from n at j : ℕ) (v : Rights s f i f
       let q : j ≡ 0 = omega arith in
       record { low = v .low; inside = v .inside; words = rw q at (v .words); onto = v .onto }
 
--- a rule: its left words up to a, `=` up to c, its right words up to d, and then nothing but blanks up to the LF at e
-pub rule-read : (s : Text) (f from : ℕ) (p : Present) (a c d e : ℕ) → Fenced s f → LeftRead s f from (p .left) a → ByteWord s f a 61 c →
-    RightRead s f (eqb (p .form) 2) c (p .right) d → Blanks s d e → e < f → getD s e 0 ≡ 10 → RuleRead s from p (e + 1)
+-- a rule: its left words up to a, `=` up to c, its right words up to d, and then nothing but blanks up to the line end at e, which goes up to z
+pub rule-read : (s : Text) (f from : ℕ) (p : Present) (a c d e z : ℕ) → LeftRead s f from (p .left) a → ByteWord s f a 61 c →
+    RightRead s f (eqb (p .form) 2) c (p .right) d → Blanks s d e → FeedAt s e z → RuleRead s from p z
 unfolding goodRight isEquals same
-rule-read s f from p a c d e g l v r k h z =
-    let i = fence-in s f e g h in
+rule-read s f from p a c d e z l v r k g =
     let w = v .word in
     let u = w .found 0 (omega arith) in
     let o : isEquals (part s (v .start) c) ≡ true = rw (v .text) refl in
-    let x : (m : ℕ) → m ≤ d + 1 → NoWord s d m (e + 1) (m + 1) = λ m y. between-feed s d m e m (between-skip s d m e y k) i z in
+    let x : (m : ℕ) → m ≤ d + 1 → NoWord s d m z (m + 1) = λ m y. between-over s d m e m z (between-skip s d m e y k) g in
     record {
-      low = omega (arith, l .low, u .low, u .some, r .low, k .low);
-      high = omega arith;
+      low = omega (arith, l .low, u .low, u .some, r .low, k .low, g .low);
+      high = g .high;
       good = l .words (eqb (p .form) 2) (p .right)
           ∙ (rw (u .text) (equals-cons (eqb (p .form) 2) (p .right) (part s (v .start) c) (left s c) (sym (u .fault)) o)
           ∙ (r .words ∙ rw (x 0 (omega arith) .none) refl));
@@ -232,7 +232,7 @@ module _ (s : Text) (f from i : ℕ) (p : Present) (g : Fenced s f) (h : from < 
   opens-at : (n : ℕ) → n ≤ from + 1 → (getD s i 0 ≡ 33 → ⊥) → (getD s i 0 ≡ 92 → ⊥) → Opens s from n false i n
   opens-at n y x z =
       opened-same s from n i n (opened-skip s from n i y (k .blanks)) (fence-in s f i g l)
-      (record { blank = k .stop (fence-in s f i g l); bang = x; joins = λ e c. z e })
+      (record { blank = k .stop (fence-in s f i g l); bang = x; joins = λ e. absurd (z e) })
 
   pub line-rule : (e : ℕ) → (getD s i 0 ≡ 33 → ⊥) → kindOf (getD s i 0) ≡ 0 → (p .form ≡ 0 → ⊥) → RuleRead s i p e → LineRead s from p e
   line-rule e x z q r =
@@ -241,7 +241,7 @@ module _ (s : Text) (f from i : ℕ) (p : Present) (g : Fenced s f) (h : from < 
         high = r .high;
         words = left s i;
         read = λ n y.
-            opens-read s from n i (omega (arith, g .high)) (opens-at n y x (not-bad (getD s i 0) (kind-zero (getD s i 0) 0 z .1) .slash))
+            opens-read s from n i (omega (arith, g .high)) (opens-at n y x (not-bad (getD s i 0) (kind-zero (getD s i 0) 0 0 z .1) .slash))
             ∙ rw (r .onto n (omega (arith, y, k .blanks .low))) refl;
         passes = λ n. passes-rule p (left s i) n q (r .good);
       }

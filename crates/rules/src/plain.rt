@@ -10,6 +10,7 @@ use super::words::is_left_word;
 use super::words::is_ordinary;
 use text::Plain;
 use text::reader::byte_word;
+use text::reader::feed_end;
 use text::reader::plain_word;
 use text::reader::skip_fast;
 use text::reader::value_word;
@@ -109,8 +110,5 @@ pub fn rule_end(s: &[u8], t: &[u8; 512], fence: usize, from: usize, p: Present) 
         return 0;
     }
     let e = skip_fast(s, t, fence, b);
-    if s[e] != 10 {
-        return 0;
-    }
-    e + 1
+    feed_end(s, e)
 }

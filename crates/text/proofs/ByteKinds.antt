@@ -2,14 +2,15 @@
 use Prim.Native.Nat.{ℕ, _-_, _≤_}
 use native.Mathlib.Omega.{arith}
 use mathlib.Core.Path.{_≡_, refl, sym, _∙_}
+use mathlib.Core.Logic.{_⊎_, inl, inr, ⊎-elim}
 use mathlib.Core.Bool.{Bool, true, false, not, _||_, _&&_, cond}
-use borrow.Author.Tests.{ne-eqb, eqb-true, eqb-false, ltb-false}
-use lib.Dec.{eqb, ltb}
+use borrow.Author.Tests.{ne-eqb, eqb-true, eqb-false, ltb-false, le-leb, leb-true}
+use lib.Dec.{eqb, ltb, leb}
 use Rattle.text.specs.declared.Class.the-variants.{Blank, Join, Slashes, Bang, Other}
 use Rattle.text.specs.declared.Place.the-variants.{Space, Word}
-use Rattle.text.specs.Marks.{classOf, char, join, atOther}
+use Rattle.text.specs.Marks.{endsLine, classOf, char, join, atOther}
 use Rattle.text.specs.Words.{badByte}
-use Rattle.text.specs.Reading.{wordly, inWord, kindOf, beginsPlain}
+use Rattle.text.specs.Reading.{wordly, inWord, kindOf, beginsPlain, endsPlain}
 use Rattle.text.proofs.Lists.{no}
 
 pub record Plain (b : ℕ) : Type 0 where
@@ -27,14 +28,49 @@ not-bad b h = go (ltb b 33) (ltb 126 b) (eqb b 92) refl refl refl h
     go false false true p q r e = absurd (no (sym e))
     go false false false p q r e = record { least = ltb-false _ _ p; most = ltb-false _ _ q; slash = eqb-false _ _ r }
 
-pub plain-in-word : (b c : ℕ) → badByte b ≡ false → inWord b c ≡ true
+-- line ends: LF, or CR with LF behind it
+
+pub ends-cases : (b c : ℕ) → endsLine b c ≡ true → (b ≡ 10) ⊎ ((b ≡ 13) × (c ≡ 10))
+unfolding endsLine
+ends-cases b c h = go (eqb b 10) (eqb b 13) (eqb c 10) refl refl refl h
+  where
+    go : (t u v : Bool) → eqb b 10 ≡ t → eqb b 13 ≡ u → eqb c 10 ≡ v → t || (u && v) ≡ true → (b ≡ 10) ⊎ ((b ≡ 13) × (c ≡ 10))
+    go true u v p q r e = inl (eqb-true _ _ p)
+    go false true true p q r e = inr (eqb-true _ _ q, eqb-true _ _ r)
+    go false true false p q r e = absurd (no e)
+    go false false v p q r e = absurd (no e)
+
+pub ends-not : (b c : ℕ) → (b ≡ 10 → ⊥) → (b ≡ 13 → ⊥) → endsLine b c ≡ false
+unfolding endsLine
+ends-not b c h k = rw (ne-eqb b 10 h, ne-eqb b 13 k)
+
+pub ends-no : (b c : ℕ) → endsLine b c ≡ false → b ≡ 10 → ⊥
+unfolding endsLine
+ends-no b c h e = no (sym (rw e at h))
+
+pub ends-feed : (b c : ℕ) → (b ≡ 13 → c ≡ 10 → ⊥) → endsLine b c ≡ eqb b 10
+unfolding endsLine
+ends-feed b c h = go (eqb b 10) (eqb b 13) (eqb c 10) refl refl
+  where
+    go : (t u v : Bool) → eqb b 13 ≡ u → eqb c 10 ≡ v → t || (u && v) ≡ t
+    go true u v p q = refl
+    go false true true p q = absurd (h (eqb-true _ _ p) (eqb-true _ _ q))
+    go false true false p q = refl
+    go false false v p q = refl
+
+plain-goes-on : (b c : ℕ) → badByte b ≡ false → endsLine b c ≡ false
+plain-goes-on b c h =
+    let p = not-bad b h in
+    ends-not b c (λ e. omega (arith, p .least, e)) (λ e. omega (arith, p .least, e))
+
+pub plain-in-word : (b c d : ℕ) → badByte b ≡ false → inWord b c d ≡ true
 unfolding inWord wordly classOf
-plain-in-word b c h =
+plain-in-word b c d h =
     let p = not-bad b h in
     let ten : b ≡ 10 → ⊥ = λ e. omega (arith, p .least, e) in
     let blank : b ≡ 32 → ⊥ = λ e. omega (arith, p .least, e) in
     let tab : b ≡ 9 → ⊥ = λ e. omega (arith, p .least, e) in
-    rw (ne-eqb b 10 ten, ne-eqb b 32 blank, ne-eqb b 9 tab, ne-eqb b 92 (p .slash)) (go (eqb b 33) (eqb b 47) (eqb c 47))
+    rw (ne-eqb b 10 ten, ne-eqb b 32 blank, ne-eqb b 9 tab, ne-eqb b 92 (p .slash), plain-goes-on b c h) (go (eqb b 33) (eqb b 47) (eqb c 47))
   where
     go : (t u v : Bool) → wordly (cond t Bang (cond u (cond v Slashes Other) Other)) ≡ true
     go true u v = refl
@@ -45,12 +81,14 @@ plain-in-word b c h =
 abbrev pub pick : Bool → Bool → Bool → Bool → Bool → ℕ
 pick t u v w x = cond t 1 (cond u 1 (cond v 2 (cond w 3 (cond x 3 0))))
 
-pub kind-one : (b c : ℕ) → kindOf b ≡ 1 → (Blank ≡ classOf b c) × (eqb b 10 ≡ false)
+pub kind-one : (b c d : ℕ) → kindOf b ≡ 1 → (Blank ≡ classOf b c d) × (eqb b 10 ≡ false)
 unfolding kindOf classOf
-kind-one b c h = go (eqb b 32) (eqb b 9) (eqb b 10) (badByte b) (eqb b 47) refl refl refl h
+kind-one b c d h = go (eqb b 32) (eqb b 9) (eqb b 10) (badByte b) (eqb b 47) refl refl refl h
   where
     go : (t u v w x : Bool) → eqb b 32 ≡ t → eqb b 9 ≡ u → eqb b 10 ≡ v → pick t u v w x ≡ 1 →
-        (Blank ≡ cond t Blank (cond u Blank (cond (eqb b 33) Bang (cond (eqb b 92) (cond (eqb c 10) Join Other) (cond (eqb b 47) (cond (eqb c 47) Slashes Other) Other))))) × (v ≡ false)
+        (Blank ≡
+        cond t Blank (cond u Blank (cond (eqb b 33) Bang (cond (eqb b 92) (cond (endsLine c d) Join Other) (cond (eqb b 47) (cond (eqb c 47) Slashes Other) (cond (endsLine b c) Blank Other)))))) ×
+        (v ≡ false)
     go true u v w x p q r e = (refl, sym r ∙ rw (eqb-true b 32 p) refl)
     go false true v w x p q r e = (refl, sym r ∙ rw (eqb-true b 9 q) refl)
     go false false true w x p q r e = absurd (eqb-false 2 1 refl e)
@@ -58,13 +96,14 @@ kind-one b c h = go (eqb b 32) (eqb b 9) (eqb b 10) (badByte b) (eqb b 47) refl 
     go false false false false true p q r e = absurd (eqb-false 3 1 refl e)
     go false false false false false p q r e = absurd (eqb-false 0 1 refl e)
 
--- a word ends before a blank or LF
-pub kind-stop : (b c : ℕ) → badByte b ≡ true → kindOf b ≤ 2 → inWord b c ≡ false
+-- a word ends before a blank or LF, and before CR LF
+
+kind-stop : (b c d : ℕ) → badByte b ≡ true → kindOf b ≤ 2 → inWord b c d ≡ false
 unfolding kindOf inWord wordly classOf
-kind-stop b c = go (eqb b 32) (eqb b 9) (eqb b 10) (badByte b) (eqb b 47)
+kind-stop b c d = go (eqb b 32) (eqb b 9) (eqb b 10) (badByte b) (eqb b 47)
   where
     go : (t u v w x : Bool) → w ≡ true → pick t u v w x ≤ 2 →
-        cond v false (wordly (cond t Blank (cond u Blank (cond (eqb b 33) Bang (cond (eqb b 92) (cond (eqb c 10) Join Other) (cond x (cond (eqb c 47) Slashes Other) Other)))))) ≡ false
+        cond v false (wordly (cond t Blank (cond u Blank (cond (eqb b 33) Bang (cond (eqb b 92) (cond (endsLine c d) Join Other) (cond x (cond (eqb c 47) Slashes Other) (cond (endsLine b c) Blank Other))))))) ≡ false
     go true u true w x h e = refl
     go true u false w x h e = refl
     go false true true w x h e = refl
@@ -73,34 +112,82 @@ kind-stop b c = go (eqb b 32) (eqb b 9) (eqb b 10) (badByte b) (eqb b 47)
     go false false false true x h e = let z : _≡_ {A = ℕ} 0 1 = omega (arith, e) in absurd (eqb-false 0 1 refl z)
     go false false false false x h e = absurd (no h)
 
--- a word begins: no blank, no join, no comment, no LF
-pub record Begins (b c : ℕ) : Type 0 where
+line-stop : (b c d : ℕ) → endsLine b c ≡ true → inWord b c d ≡ false
+unfolding inWord wordly classOf endsLine
+line-stop b c d h = ⊎-elim (λ (e : b ≡ 10). rw e refl) (λ (e : (b ≡ 13) × (c ≡ 10)). rw (e .0, e .1) refl) (ends-cases b c h)
+
+pub plain-stop : (b c d : ℕ) → badByte b ≡ true → endsPlain b c ≡ true → inWord b c d ≡ false
+unfolding endsPlain
+plain-stop b c d h k = go (leb (kindOf b) 2) refl k
+  where
+    go : (t : Bool) → leb (kindOf b) 2 ≡ t → t || endsLine b c ≡ true → inWord b c d ≡ false
+    go true p e = kind-stop b c d h (leb-true _ _ p)
+    go false p e = line-stop b c d e
+
+pub low-ends : (b c : ℕ) → kindOf b ≤ 2 → endsPlain b c ≡ true
+unfolding endsPlain
+low-ends b c h = rw (le-leb _ _ h)
+
+kind-bad : (b : ℕ) → (kindOf b ≡ 0 → ⊥) → kindOf b ≤ 2 → badByte b ≡ true
+unfolding kindOf badByte
+kind-bad b = go (eqb b 32) (eqb b 9) (eqb b 10) (eqb b 47) refl refl refl
+  where
+    go : (t u v x : Bool) → eqb b 32 ≡ t → eqb b 9 ≡ u → eqb b 10 ≡ v → (pick t u v (badByte b) x ≡ 0 → ⊥) → pick t u v (badByte b) x ≤ 2 → badByte b ≡ true
+    go true u v x p q r n l = rw (eqb-true b 32 p) refl
+    go false true v x p q r n l = rw (eqb-true b 9 q) refl
+    go false false true x p q r n l = rw (eqb-true b 10 r) refl
+    go false false false x p q r n l = bad (badByte b) refl n l
+      where
+        bad : (w : Bool) → badByte b ≡ w → (pick false false false w x ≡ 0 → ⊥) → pick false false false w x ≤ 2 → badByte b ≡ true
+        bad true e n l = e
+        bad false e n l = slash x n l
+          where
+            slash : (y : Bool) → (pick false false false false y ≡ 0 → ⊥) → pick false false false false y ≤ 2 → badByte b ≡ true
+            slash true n l = absurd (omega (arith, l))
+            slash false n l = absurd (n refl)
+
+line-bad : (b c : ℕ) → endsLine b c ≡ true → badByte b ≡ true
+unfolding badByte
+line-bad b c h = ⊎-elim (λ (e : b ≡ 10). rw e refl) (λ (e : (b ≡ 13) × (c ≡ 10)). rw (e .0) refl) (ends-cases b c h)
+
+-- a byte that ends a plain word, and is no plain byte itself
+pub ends-bad : (b c : ℕ) → (kindOf b ≡ 0 → ⊥) → endsPlain b c ≡ true → badByte b ≡ true
+unfolding endsPlain
+ends-bad b c n k = go (leb (kindOf b) 2) refl k
+  where
+    go : (t : Bool) → leb (kindOf b) 2 ≡ t → t || endsLine b c ≡ true → badByte b ≡ true
+    go true p e = kind-bad b n (leb-true _ _ p)
+    go false p e = line-bad b c e
+
+-- a word begins: no blank, no line end, no join, no comment
+pub record Begins (b c d : ℕ) : Type 0 where
   pub blank : kindOf b ≡ 1 → ⊥
-  pub feed : b ≡ 10 → ⊥
-  pub joins : b ≡ 92 → c ≡ 10 → ⊥
+  pub feed : endsLine b c ≡ false
+  pub joins : b ≡ 92 → endsLine c d ≡ false
   pub note : b ≡ 47 → c ≡ 47 → ⊥
 
-pub begins-char : (b c : ℕ) → Begins b c → atOther Space (classOf b c) b ≡ (char b, Word)
+pub begins-char : (b c d : ℕ) → Begins b c d → atOther Space (classOf b c d) b ≡ (char b, Word)
 unfolding kindOf classOf
-begins-char b c h = go (eqb b 32) (eqb b 9) (eqb b 33) (eqb b 92) (eqb c 10) (eqb b 47) (eqb c 47) refl refl refl refl refl refl
+begins-char b c d h = go (eqb b 32) (eqb b 9) (eqb b 33) (eqb b 92) (endsLine c d) (eqb b 47) (eqb c 47) (endsLine b c) refl refl refl refl refl refl (h .feed)
   where
-    go : (t u v w x y z : Bool) → eqb b 32 ≡ t → eqb b 9 ≡ u → eqb b 92 ≡ w → eqb c 10 ≡ x → eqb b 47 ≡ y → eqb c 47 ≡ z →
-        atOther Space (cond t Blank (cond u Blank (cond v Bang (cond w (cond x Join Other) (cond y (cond z Slashes Other) Other))))) b ≡ (char b, Word)
-    go true u v w x y z p q r i j k = absurd (h .blank (rw p refl))
-    go false true v w x y z p q r i j k = absurd (h .blank (rw (p, q) refl))
-    go false false true w x y z p q r i j k = refl
-    go false false false true true y z p q r i j k = absurd (h .joins (eqb-true _ _ r) (eqb-true _ _ i))
-    go false false false true false y z p q r i j k = refl
-    go false false false false x true true p q r i j k = absurd (h .note (eqb-true _ _ j) (eqb-true _ _ k))
-    go false false false false x true false p q r i j k = refl
-    go false false false false x false z p q r i j k = refl
+    go : (t u v w x y z l : Bool) → eqb b 32 ≡ t → eqb b 9 ≡ u → eqb b 92 ≡ w → endsLine c d ≡ x → eqb b 47 ≡ y → eqb c 47 ≡ z → l ≡ false →
+        atOther Space (cond t Blank (cond u Blank (cond v Bang (cond w (cond x Join Other) (cond y (cond z Slashes Other) (cond l Blank Other)))))) b ≡ (char b, Word)
+    go true u v w x y z l p q r i j k o = absurd (h .blank (rw p refl))
+    go false true v w x y z l p q r i j k o = absurd (h .blank (rw (p, q) refl))
+    go false false true w x y z l p q r i j k o = refl
+    go false false false true true y z l p q r i j k o = absurd (no (sym (h .joins (eqb-true _ _ r)) ∙ i))
+    go false false false true false y z l p q r i j k o = refl
+    go false false false false x true true l p q r i j k o = absurd (h .note (eqb-true _ _ j) (eqb-true _ _ k))
+    go false false false false x true false l p q r i j k o = refl
+    go false false false false x false z true p q r i j k o = absurd (no (sym o))
+    go false false false false x false z false p q r i j k o = refl
 
 -- a byte of kind 0
-pub kind-zero : (b c : ℕ) → kindOf b ≡ 0 → Begins b c × (badByte b ≡ false)
+pub kind-zero : (b c d : ℕ) → kindOf b ≡ 0 → Begins b c d × (badByte b ≡ false)
 unfolding kindOf
-kind-zero b c h = go (eqb b 32) (eqb b 9) (eqb b 10) (badByte b) (eqb b 47) refl refl refl h
+kind-zero b c d h = go (eqb b 32) (eqb b 9) (eqb b 10) (badByte b) (eqb b 47) refl refl refl h
   where
-    go : (t u v w x : Bool) → eqb b 10 ≡ v → badByte b ≡ w → eqb b 47 ≡ x → pick t u v w x ≡ 0 → Begins b c × (badByte b ≡ false)
+    go : (t u v w x : Bool) → eqb b 10 ≡ v → badByte b ≡ w → eqb b 47 ≡ x → pick t u v w x ≡ 0 → Begins b c d × (badByte b ≡ false)
     go true u v w x p q r e = absurd (eqb-false 1 0 refl e)
     go false true v w x p q r e = absurd (eqb-false 1 0 refl e)
     go false false true w x p q r e = absurd (eqb-false 2 0 refl e)
@@ -109,47 +196,52 @@ kind-zero b c h = go (eqb b 32) (eqb b 9) (eqb b 10) (badByte b) (eqb b 47) refl
     go false false false false false p q r e = (
       record {
         blank = λ k. eqb-false 0 1 refl (sym h ∙ k);
-        feed = eqb-false _ _ p;
-        joins = λ i j. not-bad b q .slash i;
+        feed = plain-goes-on b c q;
+        joins = λ i. absurd (not-bad b q .slash i);
         note = λ i j. eqb-false _ _ r i;
       },
       q,
     )
 
 -- a slash with no slash behind it
-lone-slash : (b c : ℕ) → b ≡ 47 → (c ≡ 47 → ⊥) → Begins b c × (badByte b ≡ false)
+lone-slash : (b c d : ℕ) → b ≡ 47 → (c ≡ 47 → ⊥) → Begins b c d × (badByte b ≡ false)
 unfolding kindOf badByte
-lone-slash b c h k = (
+lone-slash b c d h k = (
   record {
     blank = λ e. eqb-false 3 1 refl (rw h at e);
-    feed = λ e. eqb-false 47 10 refl (sym h ∙ e);
-    joins = λ e j. eqb-false 47 92 refl (sym h ∙ e);
+    feed = ends-not b c (λ e. eqb-false 47 10 refl (sym h ∙ e)) (λ e. eqb-false 47 13 refl (sym h ∙ e));
+    joins = λ e. absurd (eqb-false 47 92 refl (sym h ∙ e));
     note = λ e. k;
   },
   rw h refl,
 )
 
-pub begins-plain : (r : Bool) (b c : ℕ) → r ≡ beginsPlain b c → r ≡ true → Begins b c × (badByte b ≡ false)
+pub begins-plain : (r : Bool) (b c d : ℕ) → r ≡ beginsPlain b c → r ≡ true → Begins b c d × (badByte b ≡ false)
 unfolding beginsPlain
-begins-plain r b c h k = go (eqb (kindOf b) 0) (eqb b 47) (eqb c 47) refl refl refl (sym h ∙ k)
+begins-plain r b c d h k = go (eqb (kindOf b) 0) (eqb b 47) (eqb c 47) refl refl refl (sym h ∙ k)
   where
-    go : (t u v : Bool) → eqb (kindOf b) 0 ≡ t → eqb b 47 ≡ u → eqb c 47 ≡ v → t || (u && not v) ≡ true → Begins b c × (badByte b ≡ false)
-    go true u v p q r e = kind-zero b c (eqb-true _ _ p)
+    go : (t u v : Bool) → eqb (kindOf b) 0 ≡ t → eqb b 47 ≡ u → eqb c 47 ≡ v → t || (u && not v) ≡ true → Begins b c d × (badByte b ≡ false)
+    go true u v p q r e = kind-zero b c d (eqb-true _ _ p)
     go false true true p q r e = absurd (no e)
-    go false true false p q r e = lone-slash b c (eqb-true _ _ q) (eqb-false _ _ r)
+    go false true false p q r e = lone-slash b c d (eqb-true _ _ q) (eqb-false _ _ r)
     go false false v p q r e = absurd (no e)
 
-pub join-class : (b c : ℕ) → b ≡ 92 → c ≡ 10 → Join ≡ classOf b c
+pub join-class : (b c d : ℕ) → b ≡ 92 → endsLine c d ≡ true → Join ≡ classOf b c d
 unfolding classOf
-join-class b c p q = rw (p, q) refl
+join-class b c d p q = rw (p, q) refl
 
-pub note-class : (b c : ℕ) → b ≡ 47 → c ≡ 47 → Slashes ≡ classOf b c
+pub note-class : (b c d : ℕ) → b ≡ 47 → c ≡ 47 → Slashes ≡ classOf b c d
 unfolding classOf
-note-class b c p q = rw (p, q) refl
+note-class b c d p q = rw (p, q) refl
 
-pub bang-class : (b c : ℕ) → b ≡ 33 → Bang ≡ classOf b c
+pub bang-class : (b c d : ℕ) → b ≡ 33 → Bang ≡ classOf b c d
 unfolding classOf
-bang-class b c p = rw p refl
+bang-class b c d p = rw p refl
+
+-- CR before LF
+pub return-class : (b c d : ℕ) → b ≡ 13 → c ≡ 10 → Blank ≡ classOf b c d
+unfolding classOf endsLine
+return-class b c d p q = rw (p, q) refl
 
 pub differ : (b k m : ℕ) → eqb k m ≡ false → b ≡ k → b ≡ m → ⊥
 differ b k m h e f = eqb-false k m h (sym e ∙ f)

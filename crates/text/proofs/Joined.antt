@@ -6,13 +6,13 @@ use mathlib.Core.Path.{_≡_, refl, sym, ap, _∙_}
 use mathlib.Core.List.{List, [], _∷_, _++_, map}
 use mathlib.Core.Bool.{Bool, true, false, cond}
 use lib.Dec.{eqb}
-use borrow.Author.Tests.{not-true}
+use borrow.Author.Tests.{not-true, eqb-true}
 use Rattle.text.specs.declared.Class.{Class}
 use Rattle.text.specs.declared.Class.the-variants.{Blank, Join, Slashes, Bang, Other}
 use Rattle.text.specs.declared.Place.{Place}
 use Rattle.text.specs.declared.Place.the-variants.{Start, Space, Word, Comment, JoinStart, JoinSpace}
-use Rattle.text.specs.Bytes.{first}
-use Rattle.text.specs.Marks.{classOf, Mark, char, gap, join, bang, end, atFeed, atOther, step, marks}
+use Rattle.text.specs.Bytes.{first, rest}
+use Rattle.text.specs.Marks.{endsLine, classOf, Mark, char, gap, join, bang, end, atFeed, atOther, step, marks}
 use Rattle.text.specs.Lines.{run, words, heading, Line, feeds, inside, linesOf, lines, closedFrom, closed}
 use Rattle.text.proofs.Lists.{no}
 
@@ -96,24 +96,37 @@ feed-ends Comment e = refl
 feed-ends JoinStart e = absurd (no (sym e))
 feed-ends JoinSpace e = absurd (no (sym e))
 
--- a byte that ends a line does so whatever follows it
-ends-alike : (m : Place) (x : ℕ) (c d : ℕ) → inside (step m x c .0) ≡ false → (step m x d ≡ (end, Start)) × (step m x c ≡ (end, Start))
+-- a byte that ends a line is LF, and does so whatever follows it
+ends-alike : (m : Place) (x c d : ℕ) → inside (step m x c d .0) ≡ false → (x ≡ 10) × (atFeed m ≡ (end, Start))
 unfolding step
-ends-alike m x c d h = go (eqb x 10) h
+ends-alike m x c d h = go (eqb x 10) refl h
   where
-    go : (t : Bool) → inside (cond t (atFeed m) (atOther m (classOf x c) x) .0) ≡ false →
-        (cond t (atFeed m) (atOther m (classOf x d) x) ≡ (end, Start)) × (cond t (atFeed m) (atOther m (classOf x c) x) ≡ (end, Start))
-    go true e = (feed-ends m e, feed-ends m e)
-    go false e = absurd (no (sym e ∙ quiet m (classOf x c) x .1))
+    go : (t : Bool) → eqb x 10 ≡ t → inside (cond t (atFeed m) (atOther m (classOf x c d) x) .0) ≡ false → (x ≡ 10) × (atFeed m ≡ (end, Start))
+    go true p e = (eqb-true x 10 p, feed-ends m e)
+    go false p e = absurd (no (sym e ∙ quiet m (classOf x c d) x .1))
+
+step-ten : (m : Place) (x c d : ℕ) → x ≡ 10 → step m x c d ≡ atFeed m
+unfolding step
+step-ten m x c d e = rw e
+
+-- what a byte before LF is does not depend on what follows the LF
+before-feed : (m : Place) (x c d : ℕ) → step m x 10 c ≡ step m x 10 d
+unfolding step classOf endsLine
+before-feed m x c d = refl
 
 pub marks-append : (m : Place) (a b : List ℕ) → closedFrom true (marks m a) ≡ true → marks m (a ++ b) ≡ marks m a ++ marks Start b
-unfolding marks closedFrom first
+unfolding marks closedFrom first rest
 marks-append m [] b h = absurd (no h)
 marks-append m (x ∷ []) b h =
-    let e = ends-alike m x 0 (first b) (not-true (inside (step m x 0 .0)) h) in
-    rw (e .0, e .1)
-marks-append m (x ∷ y ∷ r) b h =
-    ap (λ (l : List Mark). step m x y .0 ∷ l) (marks-append (step m x y .1) (y ∷ r) b h)
+    let e = ends-alike m x 0 0 (not-true (inside (step m x 0 0 .0)) h) in
+    rw (step-ten m x (first b) (first (rest b)) (e .0), step-ten m x 0 0 (e .0), e .1)
+marks-append m (x ∷ y ∷ []) b h =
+    let n = step m x y 0 .1 in
+    let e = ends-alike n y 0 0 (not-true (inside (step n y 0 0 .0)) h) in
+    let q : step m x y (first b) ≡ step m x y 0 = rw (e .0) (before-feed m x (first b) 0) in
+    rw q (ap (λ (l : List Mark). step m x y 0 .0 ∷ l) (marks-append n (y ∷ []) b h))
+marks-append m (x ∷ y ∷ z ∷ r) b h =
+    ap (λ (l : List Mark). step m x y z .0 ∷ l) (marks-append (step m x y z .1) (y ∷ z ∷ r) b h)
 
 pub marks-join : (a b : List ℕ) → closed a ≡ true → marks Start (a ++ b) ≡ marks Start a ++ marks Start b
 unfolding marks closedFrom closed

@@ -4,7 +4,9 @@ pub mod Numbers
 pub mod Comparing
 pub mod Positions
 pub mod ByteKinds
+pub mod Feeds
 pub mod Readers
 pub mod Entries
 pub mod Pairs
 pub mod Passing
+pub mod LineEnds

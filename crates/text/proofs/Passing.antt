@@ -3,20 +3,23 @@ use Prim.Native.Nat.{ℕ, zero, suc, _+_, _-_, _≤_, _<_}
 use native.Mathlib.Omega.{arith}
 use mathlib.Core.Path.{_≡_, refl, sym, ap, _∙_}
 use mathlib.Core.List.{List, _∷_}
+use mathlib.Core.Logic.{_⊎_, ⊎-elim}
 use mathlib.Core.Bool.{Bool, true, false, cond}
-use lib.Dec.{eqb}
+use lib.Dec.{eqb, ltb}
 use lib.ListN.{length, getD, drop}
-use borrow.Author.Tests.{eqb-true, eqb-false}
+use borrow.Author.Tests.{eqb-true, eqb-false, ltb-true, ltb-false}
 use Rattle.text.specs.declared.Class.{Class}
 use Rattle.text.specs.declared.Class.the-variants.{Blank, Join, Slashes, Bang, Other}
 use Rattle.text.specs.declared.Place.{Place}
 use Rattle.text.specs.declared.Place.the-variants.{Start, Space, Word, Comment, JoinStart, JoinSpace}
 use Rattle.text.specs.Bytes.{first}
-use Rattle.text.specs.Marks.{classOf, Mark, end, atFeed, atOther, marks}
+use Rattle.text.specs.Marks.{endsLine, classOf, Mark, end, atFeed, atOther, marks}
 use Rattle.text.specs.Lines.{linesOf}
-use Rattle.text.specs.Reading.{ahead, follow, Fenced, FirstFeed, Passed, FoundWord, NoWord}
+use Rattle.text.specs.Reading.{ahead, follow, joinEnd, slashBefore, Fenced, FirstFeed, Passed, FoundWord, NoWord}
 use Rattle.text.proofs.Lists.{no}
 use Rattle.text.proofs.Positions.{first-drop, marks-at, step-other, step-feed, lines-char, lines-gap, lines-end}
+use Rattle.text.proofs.ByteKinds.{differ}
+use Rattle.text.proofs.Feeds.{JoinAt, join-at, join-none, slash-join}
 use Rattle.text.proofs.Readers.{fence-more}
 
 -- the places in a line behind its first byte that is no blank
@@ -58,7 +61,7 @@ feed-ends Comment h = refl
 feed-ends JoinStart h = absurd (no h)
 feed-ends JoinSpace h = absurd (no h)
 
--- a backslash joins only where LF follows
+-- a backslash joins only where a line end follows
 
 unfoldable isJoin : Class → Bool
 isJoin Blank = false
@@ -67,20 +70,21 @@ isJoin Slashes = false
 isJoin Bang = false
 isJoin Other = false
 
-joins : (b c : ℕ) → (b ≡ 92 → c ≡ 10 → ⊥) → classOf b c ≡ Join → ⊥
+joins : (b c d : ℕ) → (b ≡ 92 → endsLine c d ≡ true → ⊥) → classOf b c d ≡ Join → ⊥
 unfolding classOf isJoin
-joins b c h e = go (eqb b 32) (eqb b 9) (eqb b 33) (eqb b 92) (eqb c 10) (eqb b 47) (eqb c 47) refl refl e
+joins b c d h e = go (eqb b 32) (eqb b 9) (eqb b 33) (eqb b 92) (endsLine c d) (eqb b 47) (eqb c 47) (endsLine b c) refl refl e
   where
-    go : (p q r s t u v : Bool) → eqb b 92 ≡ s → eqb c 10 ≡ t →
-        cond p Blank (cond q Blank (cond r Bang (cond s (cond t Join Other) (cond u (cond v Slashes Other) Other)))) ≡ Join → ⊥
-    go true q r s t u v x y z = no (ap isJoin z)
-    go false true r s t u v x y z = no (ap isJoin z)
-    go false false true s t u v x y z = no (ap isJoin z)
-    go false false false true true u v x y z = h (eqb-true b 92 x) (eqb-true c 10 y)
-    go false false false true false u v x y z = no (ap isJoin z)
-    go false false false false t true true x y z = no (ap isJoin z)
-    go false false false false t true false x y z = no (ap isJoin z)
-    go false false false false t false v x y z = no (ap isJoin z)
+    go : (p q r s t u v l : Bool) → eqb b 92 ≡ s → endsLine c d ≡ t →
+        cond p Blank (cond q Blank (cond r Bang (cond s (cond t Join Other) (cond u (cond v Slashes Other) (cond l Blank Other))))) ≡ Join → ⊥
+    go true q r s t u v l x y z = no (ap isJoin z)
+    go false true r s t u v l x y z = no (ap isJoin z)
+    go false false true s t u v l x y z = no (ap isJoin z)
+    go false false false true true u v l x y z = h (eqb-true b 92 x) y
+    go false false false true false u v l x y z = no (ap isJoin z)
+    go false false false false t true true l x y z = no (ap isJoin z)
+    go false false false false t true false l x y z = no (ap isJoin z)
+    go false false false false t false v true x y z = no (ap isJoin z)
+    go false false false false t false v false x y z = no (ap isJoin z)
 
 -- what is ahead of `from` is what is ahead of i, at a place in the line
 record InLine (s : List ℕ) (from i : ℕ) : Type 0 where
@@ -93,31 +97,52 @@ unfolding inLine ahead
 line-start s from = record { place = Space; inside = refl; onto = λ n. refl }
 
 module _ (s : List ℕ) (from i : ℕ) (v : InLine s from i) (h : i < length s) where
-  line-more : (getD s i 0 ≡ 10 → ⊥) → (getD s i 0 ≡ 92 → getD s (i + 1) 0 ≡ 10 → ⊥) → InLine s from (i + 1)
+  line-more : (getD s i 0 ≡ 10 → ⊥) → (joinEnd s i ≡ 0) → InLine s from (i + 1)
   line-more k j =
-      let c = classOf (getD s i 0) (first (drop (i + 1) s)) in
-      let w = stays (v .place) c (getD s i 0) (v .inside) (joins _ _ (λ x y. j x (sym (first-drop s (i + 1)) ∙ y))) in
+      let c = classOf (getD s i 0) (first (drop (i + 1) s)) (first (drop (i + 2) s)) in
+      let w = stays (v .place) c (getD s i 0) (v .inside) (joins _ _ _ (λ x y. no (sym (join-none s i (joinEnd s i) refl j x) ∙ y))) in
       record {
         place = atOther (v .place) c (getD s i 0) .1;
         inside = w .0;
-        onto = λ n. v .onto n ∙ rw (marks-at (v .place) s i h, step-other (v .place) _ _ c k refl) (w .1 n _);
+        onto = λ n. v .onto n ∙ rw (marks-at (v .place) s i h, step-other (v .place) _ _ _ c k refl) (w .1 n _);
       }
 
   line-over : getD s i 0 ≡ 10 → (n : ℕ) → ahead s from n ≡ follow s (i + 1) (n + 1)
   unfolding follow
-  line-over e n = v .onto n ∙ rw (marks-at (v .place) s i h, step-feed (v .place) _ _ e, feed-ends (v .place) (v .inside)) (lines-end n _)
+  line-over e n = v .onto n ∙ rw (marks-at (v .place) s i h, step-feed (v .place) _ _ _ e, feed-ends (v .place) (v .inside)) (lines-end n _)
 
 line-along : (s : List ℕ) (from k : ℕ) → from + k ≤ length s → ((j : ℕ) → from ≤ j → j < from + k → getD s j 0 ≡ 10 → ⊥) →
-    ((j : ℕ) → from ≤ j → j < from + k → getD s j 0 ≡ 92 → getD s (j + 1) 0 ≡ 10 → ⊥) → InLine s from (from + k)
+    ((j : ℕ) → from ≤ j → j < from + k → joinEnd s j ≡ 0) → InLine s from (from + k)
 line-along s from zero h f g = let z : from + 0 ≡ from = omega arith in rw z (line-start s from)
 line-along s from (suc k) h f g =
     let z : from + suc k ≡ from + k + 1 = omega arith in
     let v = line-along s from k (omega arith) (λ j a b. f j a (omega arith)) (λ j a b. g j a (omega arith)) in
     rw z (line-more s from (from + k) v (omega arith) (f (from + k) (omega arith) (omega arith)) (g (from + k) (omega arith) (omega arith)))
 
--- the line ends at the first LF, where no backslash stands directly before it
+-- a line end that is joined before the first LF from `from` on is that LF's
+module _ (s : List ℕ) (from i : ℕ) (v : FirstFeed s from i) where
+  first-low : (m : ℕ) → from ≤ m → getD s m 0 ≡ 10 → i ≤ m
+  first-low m x y = go (ltb m i) refl
+    where
+      go : (t : Bool) → ltb m i ≡ t → i ≤ m
+      go true e = absurd (v .before m x (ltb-true _ _ e) y)
+      go false e = ltb-false _ _ e
+
+  join-last : (j z : ℕ) → from ≤ j → j < i → JoinAt s j z → z - 1 ≡ i
+  join-last j z a b u =
+      let l : i ≤ z - 1 = first-low (z - 1) (omega (arith, u .feed .low)) (slash-join s j z u .1) in
+      ⊎-elim
+      (λ (w : (z ≡ j + 1 + 1) × (getD s (j + 1) 0 ≡ 10)). omega (arith, w .0))
+      (λ (w : (z ≡ j + 1 + 2) × ((getD s (j + 1) 0 ≡ 13) × (getD s (j + 1 + 1) 0 ≡ 10))). go (eqb (j + 1) i) refl (w .0) (w .1 .0) l)
+      (u .feed .cases)
+    where
+      go : (t : Bool) → eqb (j + 1) i ≡ t → z ≡ j + 1 + 2 → getD s (j + 1) 0 ≡ 13 → i ≤ z - 1 → z - 1 ≡ i
+      go true q e f l = absurd (differ (getD s (j + 1) 0) 13 10 refl f (rw (sym (eqb-true (j + 1) i q)) at (v .feed)))
+      go false q e f l = let x = eqb-false (j + 1) i q in omega arith
+
+-- the line ends at the first LF, where no backslash stands before its line end
 module _ (s : List ℕ) (from i n : ℕ) (v : FirstFeed s from i) (h : i < length s) (few : n ≤ from + 1) where
-  pub passed-feed : (from < i → getD s (i - 1) 0 ≡ 92 → ⊥) → Passed s from n (i + 1) (n + 1)
+  pub passed-feed : slashBefore s i ≡ false → Passed s from n (i + 1) (n + 1)
   passed-feed k =
       let z : from + (i - from) ≡ i = omega (arith, v .low) in
       let w : InLine s from i = rw z at (line-along s from (i - from) (omega arith) (λ j a b. v .before j a (omega arith)) free) in
@@ -128,15 +153,15 @@ module _ (s : List ℕ) (from i n : ℕ) (v : FirstFeed s from i) (h : i < lengt
         onto = line-over s from i w h (v .feed) n;
       }
     where
-      last : (j : ℕ) → from ≤ j → j < i → getD s (j + 1) 0 ≡ 10 → j ≡ i - 1
-      last j a b e = go (eqb (j + 1) i) refl
+      free : (j : ℕ) → from ≤ j → j < from + (i - from) → joinEnd s j ≡ 0
+      free j a b = go (eqb (joinEnd s j) 0) refl
         where
-          go : (t : Bool) → eqb (j + 1) i ≡ t → j ≡ i - 1
-          go true q = let x = eqb-true (j + 1) i q in omega arith
-          go false q = absurd (let x = eqb-false (j + 1) i q in v .before (j + 1) (omega arith) (omega arith) e)
-
-      free : (j : ℕ) → from ≤ j → j < from + (i - from) → getD s j 0 ≡ 92 → getD s (j + 1) 0 ≡ 10 → ⊥
-      free j a b x y = let e = last j a (omega (arith, v .low)) y in k (omega arith) (rw e at x)
+          go : (t : Bool) → eqb (joinEnd s j) 0 ≡ t → joinEnd s j ≡ 0
+          go true q = eqb-true _ _ q
+          go false q =
+              let u = join-at s j (joinEnd s j) refl (eqb-false _ _ q) in
+              let e = join-last s from i v j (joinEnd s j) a (omega (arith, v .low)) u in
+              absurd (no (sym k ∙ rw e at (slash-join s j (joinEnd s j) u .0)))
 
 -- the search for LF before the fence
 pub record Feeding (s : List ℕ) (f from i : ℕ) : Type 0 where

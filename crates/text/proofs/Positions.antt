@@ -14,7 +14,7 @@ use Rattle.text.specs.declared.Class.{Class}
 use Rattle.text.specs.declared.Class.the-variants.{Blank, Join, Slashes, Bang, Other}
 use Rattle.text.specs.declared.Place.{Place}
 use Rattle.text.specs.declared.Place.the-variants.{Space, Word, Comment}
-use Rattle.text.specs.Bytes.{first, part, anyOf}
+use Rattle.text.specs.Bytes.{first, rest, part, anyOf}
 use Rattle.text.specs.Marks.{classOf, Mark, char, gap, join, bang, end, atFeed, atOther, step, marks}
 use Rattle.text.specs.Lines.{run, words, feeds, inside, linesOf, lines}
 use Rattle.text.specs.Words.{badByte}
@@ -49,9 +49,9 @@ part-cons s a e lt h =
     rw (k, drop-at s a (omega arith))
 
 -- a byte that goes on with a word
-pub in-word-of : (b c : ℕ) (k : Class) → (b ≡ 10 → ⊥) → k ≡ classOf b c → inWord b c ≡ wordly k
+pub in-word-of : (b c d : ℕ) (k : Class) → (b ≡ 10 → ⊥) → k ≡ classOf b c d → inWord b c d ≡ wordly k
 unfolding inWord
-in-word-of b c k n e = rw (ne-eqb b 10 n, ← e)
+in-word-of b c d k n e = rw (ne-eqb b 10 n, ← e)
 
 wordly-char : (b : ℕ) (k : Class) → wordly k ≡ true → atOther Word k b ≡ (char b, Word)
 unfolding wordly
@@ -61,13 +61,13 @@ wordly-char b Slashes h = refl
 wordly-char b Bang h = refl
 wordly-char b Other h = refl
 
-pub in-word : (b c : ℕ) → inWord b c ≡ true → step Word b c ≡ (char b, Word)
+pub in-word : (b c d : ℕ) → inWord b c d ≡ true → step Word b c d ≡ (char b, Word)
 unfolding inWord step
-in-word b c = go (eqb b 10)
+in-word b c d = go (eqb b 10)
   where
-    go : (t : Bool) → cond t false (wordly (classOf b c)) ≡ true → cond t (atFeed Word) (atOther Word (classOf b c) b) ≡ (char b, Word)
+    go : (t : Bool) → cond t false (wordly (classOf b c d)) ≡ true → cond t (atFeed Word) (atOther Word (classOf b c d) b) ≡ (char b, Word)
     go true h = absurd (no h)
-    go false h = wordly-char b (classOf b c) h
+    go false h = wordly-char b (classOf b c d) h
 
 -- a byte at which a word ends is marked as it would be between words
 wordly-gap : (b : ℕ) (k : Class) → wordly k ≡ false → (atOther Word k b ≡ atOther Space k b) × (atOther Word k b .0 ≡ gap)
@@ -84,15 +84,15 @@ feed-same = refl
 feed-end : atFeed Word .0 ≡ end
 feed-end = refl
 
-pub word-stops : (b c : ℕ) → inWord b c ≡ false → (step Word b c ≡ step Space b c) × ((step Word b c .0 ≡ gap) ⊎ (step Word b c .0 ≡ end))
+pub word-stops : (b c d : ℕ) → inWord b c d ≡ false → (step Word b c d ≡ step Space b c d) × ((step Word b c d .0 ≡ gap) ⊎ (step Word b c d .0 ≡ end))
 unfolding inWord step
-word-stops b c = go (eqb b 10)
+word-stops b c d = go (eqb b 10)
   where
-    go : (t : Bool) → cond t false (wordly (classOf b c)) ≡ false →
-        (cond t (atFeed Word) (atOther Word (classOf b c) b) ≡ cond t (atFeed Space) (atOther Space (classOf b c) b)) ×
-        ((cond t (atFeed Word) (atOther Word (classOf b c) b) .0 ≡ gap) ⊎ (cond t (atFeed Word) (atOther Word (classOf b c) b) .0 ≡ end))
+    go : (t : Bool) → cond t false (wordly (classOf b c d)) ≡ false →
+        (cond t (atFeed Word) (atOther Word (classOf b c d) b) ≡ cond t (atFeed Space) (atOther Space (classOf b c d) b)) ×
+        ((cond t (atFeed Word) (atOther Word (classOf b c d) b) .0 ≡ gap) ⊎ (cond t (atFeed Word) (atOther Word (classOf b c d) b) .0 ≡ end))
     go true h = (feed-same, inr feed-end)
-    go false h = let w = wordly-gap b (classOf b c) h in (w .0, inl (w .1))
+    go false h = let w = wordly-gap b (classOf b c d) h in (w .0, inl (w .1))
 
 run-stop : (y : Mark) (r : List Mark) → (y ≡ gap) ⊎ (y ≡ end) → (run (y ∷ r) ≡ []) × (words true (y ∷ r) ≡ words false (y ∷ r))
 unfolding run words
@@ -124,35 +124,53 @@ unfolding linesOf
 lines-nil n f = refl
 
 -- at a position
-pub word-more : (s : List ℕ) (i : ℕ) → i < length s → inWord (getD s i 0) (first (drop (i + 1) s)) ≡ true →
-    (run (marks Word (drop i s)) ≡ getD s i 0 ∷ run (marks Word (drop (i + 1) s))) × (words true (marks Word (drop i s)) ≡ words true (marks Word (drop (i + 1) s)))
-unfolding marks run words
-word-more s i h e = rw (drop-at s i h) (rw (in-word _ _ e) (refl, refl))
 
-word-more-lines : (s : List ℕ) (i n : ℕ) → i < length s → inWord (getD s i 0) (first (drop (i + 1) s)) ≡ true →
-    linesOf n true (marks Word (drop i s)) ≡ linesOf n true (marks Word (drop (i + 1) s))
+rest-drop : (s : List ℕ) (k : ℕ) → rest (drop k s) ≡ drop (suc k) s
+unfolding rest
+rest-drop [] zero = refl
+rest-drop [] (suc k) = refl
+rest-drop (x ∷ s) zero = refl
+rest-drop (x ∷ s) (suc k) = rest-drop s k
+
+pub marks-at : (m : Place) (s : List ℕ) (i : ℕ) → i < length s →
+    marks m (drop i s) ≡
+    step m (getD s i 0) (first (drop (i + 1) s)) (first (drop (i + 2) s)) .0 ∷
+    marks (step m (getD s i 0) (first (drop (i + 1) s)) (first (drop (i + 2) s)) .1) (drop (i + 1) s)
 unfolding marks
-word-more-lines s i n h e = rw (drop-at s i h) (rw (in-word _ _ e) (lines-char n _ _))
+marks-at m s i h = let q : i + 2 ≡ suc (i + 1) = omega arith in rw (drop-at s i h, rest-drop s (i + 1), ← q)
 
-pub word-over : (s : List ℕ) (i : ℕ) → i < length s → inWord (getD s i 0) (first (drop (i + 1) s)) ≡ false →
+-- the byte at i goes on with a word
+abbrev pub inWordAt : List ℕ → ℕ → Bool
+inWordAt s i = inWord (getD s i 0) (first (drop (i + 1) s)) (first (drop (i + 2) s))
+
+pub word-more : (s : List ℕ) (i : ℕ) → i < length s → inWordAt s i ≡ true →
+    (run (marks Word (drop i s)) ≡ getD s i 0 ∷ run (marks Word (drop (i + 1) s))) × (words true (marks Word (drop i s)) ≡ words true (marks Word (drop (i + 1) s)))
+unfolding run words
+word-more s i h e = rw (marks-at Word s i h, in-word _ _ _ e) (refl, refl)
+
+word-more-lines : (s : List ℕ) (i n : ℕ) → i < length s → inWordAt s i ≡ true →
+    linesOf n true (marks Word (drop i s)) ≡ linesOf n true (marks Word (drop (i + 1) s))
+word-more-lines s i n h e = rw (marks-at Word s i h, in-word _ _ _ e) (lines-char n _ _)
+
+pub word-over : (s : List ℕ) (i : ℕ) → i < length s → inWordAt s i ≡ false →
     (run (marks Word (drop i s)) ≡ []) × (words true (marks Word (drop i s)) ≡ left s i)
-unfolding marks left
+unfolding left
 word-over s i h e =
-    let w = word-stops _ _ e in
-    rw (drop-at s i h) (rw (← w .0) (run-stop _ _ (w .1)))
+    let w = word-stops _ _ _ e in
+    rw (marks-at Word s i h, marks-at Space s i h, ← w .0) (run-stop _ _ (w .1))
 
-word-over-lines : (s : List ℕ) (i n : ℕ) → i < length s → inWord (getD s i 0) (first (drop (i + 1) s)) ≡ false →
+word-over-lines : (s : List ℕ) (i n : ℕ) → i < length s → inWordAt s i ≡ false →
     linesOf n true (marks Word (drop i s)) ≡ ahead s i n
-unfolding marks ahead
+unfolding ahead
 word-over-lines s i n h e =
-    let w = word-stops _ _ e in
-    rw (drop-at s i h) (rw (w .0))
+    let w = word-stops _ _ _ e in
+    rw (marks-at Word s i h, marks-at Space s i h, w .0)
 
 module _ (s : List ℕ) (from : ℕ) where
   pub in-word-start : from ≤ length s → InWord s from from
   in-word-start h = record { low = omega arith; high = h; text = rw (part-empty s from); rest = refl; onto = λ n. refl }
 
-  pub in-word-more : (i : ℕ) → InWord s from i → i < length s → inWord (getD s i 0) (first (drop (i + 1) s)) ≡ true → InWord s from (i + 1)
+  pub in-word-more : (i : ℕ) → InWord s from i → i < length s → inWordAt s i ≡ true → InWord s from (i + 1)
   in-word-more i v h e =
       let w = word-more s i h e in
       record {
@@ -163,7 +181,7 @@ module _ (s : List ℕ) (from : ℕ) where
         onto = λ n. v .onto n ∙ word-more-lines s i n h e;
       }
 
-  pub in-word-over : (i : ℕ) → InWord s from i → i < length s → inWord (getD s i 0) (first (drop (i + 1) s)) ≡ false → WordEnd s from i
+  pub in-word-over : (i : ℕ) → InWord s from i → i < length s → inWordAt s i ≡ false → WordEnd s from i
   in-word-over i v h e =
       let w = word-over s i h e in
       record { low = v .low; high = v .high; text = v .text ∙ rw (w .0, append-nil); rest = v .rest ∙ w .1; onto = λ n. v .onto n ∙ word-over-lines s i n h e }
@@ -176,9 +194,9 @@ module _ (s : List ℕ) (from : ℕ) where
 
 -- between words
 
-pub step-other : (m : Place) (b c : ℕ) (k : Class) → (b ≡ 10 → ⊥) → k ≡ classOf b c → step m b c ≡ atOther m k b
+pub step-other : (m : Place) (b c d : ℕ) (k : Class) → (b ≡ 10 → ⊥) → k ≡ classOf b c d → step m b c d ≡ atOther m k b
 unfolding step
-step-other m b c k n e = rw (ne-eqb b 10 n, ← e)
+step-other m b c d k n e = rw (ne-eqb b 10 n, ← e)
 
 pub comment-words : (l : List ℕ) → words false (marks Comment l) ≡ []
 unfolding marks words step
@@ -186,7 +204,7 @@ comment-words [] = refl
 comment-words (b ∷ r) = go (eqb b 10) (comment-words r)
   where
     go : (t : Bool) → words false (marks Comment r) ≡ [] →
-        words false (cond t (atFeed Comment) (atOther Comment (classOf b (first r)) b) .0 ∷ marks (cond t (atFeed Comment) (atOther Comment (classOf b (first r)) b) .1) r) ≡ []
+        words false (cond t (atFeed Comment) (gap, Comment) .0 ∷ marks (cond t (atFeed Comment) (gap, Comment) .1) r) ≡ []
     go true h = refl
     go false h = h
 
@@ -197,14 +215,9 @@ first-in [] (suc k) h = omega arith
 first-in (x ∷ s) zero h = omega arith
 first-in (x ∷ s) (suc k) h = suc-le-suc (first-in s k h)
 
-pub marks-at : (m : Place) (s : List ℕ) (i : ℕ) → i < length s →
-    marks m (drop i s) ≡ step m (getD s i 0) (first (drop (i + 1) s)) .0 ∷ marks (step m (getD s i 0) (first (drop (i + 1) s)) .1) (drop (i + 1) s)
-unfolding marks
-marks-at m s i h = rw (drop-at s i h)
-
-pub step-feed : (m : Place) (b c : ℕ) → b ≡ 10 → step m b c ≡ atFeed m
+pub step-feed : (m : Place) (b c d : ℕ) → b ≡ 10 → step m b c d ≡ atFeed m
 unfolding step
-step-feed m b c e = rw e
+step-feed m b c d e = rw e
 
 -- the loop of `any_bad`
 pub record NoneBad (s : List ℕ) (from e i : ℕ) : Type 0 where

@@ -3,10 +3,12 @@ use Prim.Native.Nat.{ℕ, zero, suc, min, _+_, _-_, _≤_, _<_}
 use native.Mathlib.Omega.{arith}
 use mathlib.Core.Path.{_≡_, refl, sym, _∙_}
 use mathlib.Core.List.{List, [], _∷_, _++_}
+use mathlib.Core.Logic.{_⊎_, ⊎-elim}
 use mathlib.Core.Bool.{Bool, true, false, not, _||_, _&&_, cond}
 use borrow.Author.Tests.{eq-eqb, eqb-true, eqb-false, ltb-true, ltb-false, lt-ltb, le-ltb, le-leb}
 use lib.Dec.{eqb, ltb, leb}
-use lib.ListN.{length, getD, drop, drop-of-length-le}
+use lib.ListN.{length, getD, drop, length-drop, drop-of-length-le}
+use lib.Seq.{getD-drop}
 use Rattle.text.specs.declared.Class.the-variants.{Blank, Join, Slashes, Bang, Other}
 use Rattle.text.specs.declared.Place.{Place}
 use Rattle.text.specs.declared.Place.the-variants.{Start, Space, Word, Comment, JoinStart, JoinSpace}
@@ -17,15 +19,21 @@ use Rattle.text.specs.declared.Fast.the-variants as fast
 use Rattle.text.specs.declared.Plain.{Plain as PlainRead}
 use Rattle.text.specs.declared.Plain.the-variants as plain
 use Rattle.text.specs.Bytes.{Words, first, part, allOf, anyOf}
-use Rattle.text.specs.Marks.{classOf, Mark, char, gap, join, bang, end, atFeed, atOther, step, marks}
+use Rattle.text.specs.Marks.{endsLine, classOf, Mark, char, gap, join, bang, end, atFeed, atOther, step, marks}
 use Rattle.text.specs.Lines.{run, words, heading, Line, inside, linesOf, lines}
 use Rattle.text.specs.Words.{badByte, tooLong, wordsFault}
-use Rattle.text.specs.Reading.{left, ahead, follow, faultOf, lower, levelOf, kindOf, Fenced, WordEnd, InWord, PlainEnd, RunEnd, OddWord, CommentEnd, Blanks, Skipped, FoundWord, NoWord, Between, FastWord, PlainFound, PlainWord, ValueWord, ByteWord, NextWord, Opens}
+use Rattle.text.specs.Reading.{left, ahead, follow, faultOf, lower, levelOf, kindOf, endsPlain, feedEnd, joinEnd, slashBefore, Fenced, WordEnd, InWord, PlainEnd, RunEnd, OddWord, CommentEnd, Blanks, Skipped, FoundWord, NoWord, Between, FastWord, PlainFound, PlainWord, ValueWord, ByteWord, NextWord, Opens}
 use Rattle.text.proofs.Lists.{no, and-both, any-nil, any-cons}
 use Rattle.text.proofs.Positions.{first-drop, part-empty, part-cons, part-snoc, in-word-start, in-word-more, in-word-over, marks-at, step-other, step-feed, comment-words, first-in, length-part, lines-char, lines-gap, lines-bang, lines-join, lines-end, lines-nil}
-use Rattle.text.proofs.ByteKinds.{pick, not-bad, plain-in-word, kind-one, kind-stop, Begins, begins-char, kind-zero, join-class, note-class, bang-class, differ}
+use Rattle.text.proofs.ByteKinds.{not-bad, plain-in-word, kind-one, plain-stop, low-ends, ends-bad, ends-no, ends-feed, Begins, begins-char, kind-zero, join-class, note-class, bang-class, return-class, differ}
+use Rattle.text.proofs.Feeds.{FeedAt, feed-none, JoinAt, join-none, join-ends, joined-start, joined-space, slash-join, slash-drop}
 
--- plain bytes
+-- two bytes, side by side
+pub pair-yes : (r : Bool) (b c k m : ℕ) → r ≡ (eqb b k && eqb c m) → r ≡ true → (b ≡ k) × (c ≡ m)
+pair-yes r b c k m e h = let w = and-both (eqb b k) (eqb c m) (sym e ∙ h) in (eqb-true b k (w .0), eqb-true c m (w .1))
+
+pub pair-no : (r : Bool) (b c k m : ℕ) → r ≡ (eqb b k && eqb c m) → r ≡ false → b ≡ k → c ≡ m → ⊥
+pair-no r b c k m e h p q = no (sym (sym e ∙ h) ∙ rw (eq-eqb b k p, eq-eqb c m q) refl)
 
 -- levels
 
@@ -86,7 +94,7 @@ module _ (s : List ℕ) (from i : ℕ) (v : Run s from i) where
   pub run-more : i < length s → badByte (getD s i 0) ≡ false → Run s from (i + 1)
   run-more h b =
       record {
-        read = in-word-more s from i (v .read) h (plain-in-word _ _ b);
+        read = in-word-more s from i (v .read) h (plain-in-word _ _ _ b);
         clean = rw (part-snoc s from i (v .read .low) h) (any-snoc _ _ (v .clean) b);
       }
 
@@ -157,16 +165,16 @@ module _ (s : List ℕ) (from i : ℕ) (v : Blanks s from i) where
   pub blanks-more : i < length s → kindOf (getD s i 0) ≡ 1 → Blanks s from (i + 1)
   unfolding left ahead
   blanks-more h k =
-      let z = kind-one (getD s i 0) (first (drop (i + 1) s)) k in
+      let z = kind-one (getD s i 0) (first (drop (i + 1) s)) (first (drop (i + 2) s)) k in
       let n = eqb-false _ _ (z .1) in
       record {
         low = omega (arith, v .low);
         high = omega arith;
-        text = v .text ∙ rw (marks-at Space s i h, step-other Space _ _ Blank n (z .0), words-gap);
-        onto = λ m. v .onto m ∙ rw (marks-at Space s i h, step-other Space _ _ Blank n (z .0), lines-gap);
-        mark₀ = v .mark₀ ∙ rw (marks-at Start s i h, step-other Start _ _ Blank n (z .0), heading-gap);
-        text₀ = v .text₀ ∙ rw (marks-at Start s i h, step-other Start _ _ Blank n (z .0), words-gap);
-        onto₀ = λ m. v .onto₀ m ∙ rw (marks-at Start s i h, step-other Start _ _ Blank n (z .0), lines-gap);
+        text = v .text ∙ rw (marks-at Space s i h, step-other Space _ _ _ Blank n (z .0), words-gap);
+        onto = λ m. v .onto m ∙ rw (marks-at Space s i h, step-other Space _ _ _ Blank n (z .0), lines-gap);
+        mark₀ = v .mark₀ ∙ rw (marks-at Start s i h, step-other Start _ _ _ Blank n (z .0), heading-gap);
+        text₀ = v .text₀ ∙ rw (marks-at Start s i h, step-other Start _ _ _ Blank n (z .0), words-gap);
+        onto₀ = λ m. v .onto₀ m ∙ rw (marks-at Start s i h, step-other Start _ _ _ Blank n (z .0), lines-gap);
       }
 
   pub blanks-stop : (kindOf (getD s i 0) ≡ 1 → ⊥) → Skipped s from i
@@ -188,7 +196,7 @@ module _ (s : List ℕ) (from i : ℕ) (v : InComment s from i) where
       record {
         low = omega (arith, v .low);
         high = omega arith;
-        onto = λ n. v .onto n ∙ rw (marks-at Comment s i h, step-other Comment _ _ _ k refl, lines-gap);
+        onto = λ n. v .onto n ∙ rw (marks-at Comment s i h, step-other Comment _ _ _ _ k refl, lines-gap);
       }
 
   pub comment-feed : i < length s → getD s i 0 ≡ 10 → CommentEnd s from (i + 1)
@@ -197,7 +205,7 @@ module _ (s : List ℕ) (from i : ℕ) (v : InComment s from i) where
       record {
         low = omega (arith, v .low);
         high = omega arith;
-        onto = λ n. v .onto n ∙ rw (marks-at Comment s i h, step-feed Comment _ _ k, lines-end);
+        onto = λ n. v .onto n ∙ rw (marks-at Comment s i h, step-feed Comment _ _ _ k, lines-end);
       }
 
   pub comment-over : length s ≤ i → CommentEnd s from i
@@ -220,16 +228,13 @@ module _ (s : List ℕ) (a e : ℕ) (lt : a < length s) (w : WordEnd s (a + 1) e
   unfolding faultOf tooLong
   odd-fine h k = record { ends = w; fault = rw (h, length-part s a e (w .high), le-ltb _ _ k) refl }
 
--- a plain word that a blank or LF ends
-pub plain-word : (s : List ℕ) (a p : ℕ) → a < length s → badByte (getD s a 0) ≡ false → PlainEnd s (a + 1) p → p < length s → kindOf (getD s p 0) ≤ 2 → p ≤ a + 256 → OddWord s a p 0
+-- a plain word that a blank or a line end ends
+pub plain-word : (s : List ℕ) (a p : ℕ) → a < length s → badByte (getD s a 0) ≡ false → PlainEnd s (a + 1) p → p < length s →
+    endsPlain (getD s p 0) (first (drop (p + 1) s)) ≡ true → p ≤ a + 256 → OddWord s a p 0
 plain-word s a p lt b w h k l =
     let lo : a < p = omega (arith, w .read .low) in
     let e : anyOf badByte (part s a p) ≡ false = rw (part-cons s a p lo (w .read .high), any-cons, b) (w .clean) in
-    odd-fine s a p lt (in-word-over s (a + 1) p (w .read) h (kind-stop _ _ (w .stop h) k)) e (omega arith)
-
--- a backslash with LF after it lies in the file with both bytes
-pub join-in : (s : List ℕ) (i : ℕ) → first (drop (i + 1) s) ≡ 10 → i + 2 ≤ length s
-join-in s i f = let k : i + 1 < length s = first-in s (i + 1) f in omega arith
+    odd-fine s a p lt (in-word-over s (a + 1) p (w .read) h (plain-stop _ _ _ (w .stop h) k)) e (omega arith)
 
 -- between words
 
@@ -261,30 +266,42 @@ module _ (s : List ℕ) (from n i m : ℕ) (v : Between s from n i m) where
           high = omega arith;
           few = omega (arith, v .few);
           grow = omega (arith, v .grow);
-          none = v .text ∙ rw (marks-at Space s i h, step-feed Space _ _ e, words-end);
-          onto = v .onto ∙ rw (marks-at Space s i h, step-feed Space _ _ e, lines-end);
+          none = v .text ∙ rw (marks-at Space s i h, step-feed Space _ _ _ e, words-end);
+          onto = v .onto ∙ rw (marks-at Space s i h, step-feed Space _ _ _ e, lines-end);
         }
 
-    pub between-joined : (j : ℕ) → getD s i 0 ≡ 92 → first (drop (i + 1) s) ≡ 10 → Blanks s (i + 2) j → Between s from n j (m + 1)
+    -- CR before LF is as a blank
+    between-return : getD s i 0 ≡ 13 → getD s (i + 1) 0 ≡ 10 → Between s from n (i + 1) m
     unfolding left ahead
-    between-joined j e f w =
-        let k : i + 1 < length s = first-in s (i + 1) f in
-        let q : i + 1 + 1 ≡ i + 2 = omega arith in
-        let g : getD s (i + 1) 0 ≡ 10 = sym (first-drop s (i + 1)) ∙ f in
-        let x = step-other Space _ _ Join (differ _ 92 10 refl e) (join-class _ _ e f) in
+    between-return e f =
+        let x = step-other Space _ _ (first (drop (i + 2) s)) Blank (differ _ 13 10 refl e) (return-class _ _ _ e (first-drop s (i + 1) ∙ f)) in
         record {
-          low = omega (arith, v .low, w .low);
+          low = omega (arith, v .low);
+          high = omega arith;
+          few = omega (arith, v .few);
+          grow = omega (arith, v .grow);
+          text = v .text ∙ rw (marks-at Space s i h, x, words-gap);
+          onto = v .onto ∙ rw (marks-at Space s i h, x, lines-gap);
+        }
+
+    pub between-joined : (z j : ℕ) → JoinAt s i z → Blanks s z j → Between s from n j (m + 1)
+    unfolding left ahead
+    between-joined z j u w =
+        let g = joined-space s (i + 1) z (u .feed) in
+        let x = step-other Space _ _ _ Join (differ _ 92 10 refl (u .slash)) (join-class _ _ _ (u .slash) (join-ends s i z u)) in
+        record {
+          low = omega (arith, v .low, u .feed .low, w .low);
           high = w .high;
-          few = omega (arith, v .few, w .low);
-          grow = omega (arith, v .grow, w .low);
-          text = v .text ∙ (rw (marks-at Space s i h, x, words-gap, marks-at JoinSpace s (i + 1) k, step-feed JoinSpace _ _ g, words-join, q) (w .text));
-          onto = v .onto ∙ (rw (marks-at Space s i h, x, lines-gap, marks-at JoinSpace s (i + 1) k, step-feed JoinSpace _ _ g, lines-join, q) (w .onto (m + 1)));
+          few = omega (arith, v .few, u .feed .low, w .low);
+          grow = omega (arith, v .grow, u .feed .low, w .low);
+          text = v .text ∙ rw (marks-at Space s i h, x, words-gap) (g .text ∙ w .text);
+          onto = v .onto ∙ rw (marks-at Space s i h, x, lines-gap) (g .onto m ∙ w .onto (m + 1));
         }
 
     pub between-note : (p : ℕ) → getD s i 0 ≡ 47 → first (drop (i + 1) s) ≡ 47 → CommentEnd s (i + 1) p → NoWord s from n p (m + 1)
     unfolding left ahead
     between-note p e f w =
-        let x = step-other Space _ _ Slashes (differ _ 47 10 refl e) (note-class _ _ e f) in
+        let x = step-other Space _ _ _ Slashes (differ _ 47 10 refl e) (note-class _ _ (first (drop (i + 2) s)) e f) in
         record {
           low = omega (arith, v .low, w .low);
           onwards = omega (arith, v .low, w .low);
@@ -295,10 +312,10 @@ module _ (s : List ℕ) (from n i m : ℕ) (v : Between s from n i m) where
           onto = v .onto ∙ rw (marks-at Space s i h, x, lines-gap) (w .onto m);
         }
 
-    pub between-word : (z f : ℕ) → Begins (getD s i 0) (first (drop (i + 1) s)) → OddWord s i z f → FoundWord s from n i z m f
+    pub between-word : (z f : ℕ) → Begins (getD s i 0) (first (drop (i + 1) s)) (first (drop (i + 2) s)) → OddWord s i z f → FoundWord s from n i z m f
     unfolding left ahead
     between-word z f b w =
-        let x = step-other Space _ _ _ (b .feed) refl ∙ begins-char _ _ b in
+        let x = step-other Space _ _ _ _ (ends-no _ _ (b .feed)) refl ∙ begins-char _ _ _ b in
         let lo : i < z = omega (arith, w .ends .low) in
         record {
           low = v .low;
@@ -310,6 +327,23 @@ module _ (s : List ℕ) (from n i m : ℕ) (v : Between s from n i m) where
           onto = v .onto ∙ rw (marks-at Space s i h, x, lines-char) (w .ends .onto m);
           fault = w .fault;
         }
+
+-- a line end, LF or CR LF
+pub between-over : (s : List ℕ) (from n i m z : ℕ) → Between s from n i m → FeedAt s i z → NoWord s from n z (m + 1)
+between-over s from n i m z v u =
+    let h : i < length s = omega (arith, u .low, u .high) in
+    ⊎-elim
+    (λ (w : (z ≡ i + 1) × (getD s i 0 ≡ 10)). rw (w .0) (between-feed s from n i m v h (w .1)))
+    (λ (w : (z ≡ i + 2) × ((getD s i 0 ≡ 13) × (getD s (i + 1) 0 ≡ 10))).
+    let q : z ≡ i + 1 + 1 = omega (arith, w .0) in
+    let k : i + 1 < length s = omega (arith, w .0, u .high) in
+    rw q (between-feed s from n (i + 1) m (between-return s from n i m v h (w .1 .0) (w .1 .1)) k (w .1 .1)))
+    (u .cases)
+
+-- a word begins where there is no blank, no line end, no join and no comment
+pub begins-at : (s : List ℕ) (i e j : ℕ) → (kindOf (getD s i 0) ≡ 1 → ⊥) → e ≡ feedEnd s i → e ≡ 0 → j ≡ joinEnd s i → j ≡ 0 →
+    (getD s i 0 ≡ 47 → first (drop (i + 1) s) ≡ 47 → ⊥) → Begins (getD s i 0) (first (drop (i + 1) s)) (first (drop (i + 2) s))
+begins-at s i e j k f z g y n = record { blank = k; feed = feed-none s i e f z; joins = join-none s i j g y; note = n }
 
 -- the start of a line
 
@@ -331,50 +365,78 @@ heading-comment [] = refl
 heading-comment (b ∷ r) = go (eqb b 10) (heading-comment r)
   where
     go : (t : Bool) → heading (marks Comment r) ≡ false →
-        heading (cond t (atFeed Comment) (atOther Comment (classOf b (first r)) b) .0 ∷ marks (cond t (atFeed Comment) (atOther Comment (classOf b (first r)) b) .1) r) ≡ false
+        heading (cond t (atFeed Comment) (gap, Comment) .0 ∷ marks (cond t (atFeed Comment) (gap, Comment) .1) r) ≡ false
     go true h = refl
     go false h = h
 
 -- what may stand at the first byte that is not blank: no heading mark, and the same marks as between words
-pub record Same (b c : ℕ) : Type 0 where
+pub record Same (b c d : ℕ) : Type 0 where
   pub blank : kindOf b ≡ 1 → ⊥
   pub bang : b ≡ 33 → ⊥
-  pub joins : b ≡ 92 → c ≡ 10 → ⊥
+  pub joins : b ≡ 92 → endsLine c d ≡ false
 
-same-step : (b c : ℕ) → Same b c → step Start b c ≡ step Space b c
-unfolding step kindOf classOf
-same-step b c h = go (eqb b 10) (eqb b 32) (eqb b 9) (eqb b 33) (eqb b 92) (eqb c 10) (eqb b 47) (eqb c 47) refl refl refl refl refl
-  where
-    go : (l t u v w x y z : Bool) → eqb b 32 ≡ t → eqb b 9 ≡ u → eqb b 33 ≡ v → eqb b 92 ≡ w → eqb c 10 ≡ x →
-        cond l (atFeed Start) (atOther Start (cond t Blank (cond u Blank (cond v Bang (cond w (cond x Join Other) (cond y (cond z Slashes Other) Other))))) b) ≡
-        cond l (atFeed Space) (atOther Space (cond t Blank (cond u Blank (cond v Bang (cond w (cond x Join Other) (cond y (cond z Slashes Other) Other))))) b)
-    go true t u v w x y z p q r i j = refl
-    go false true u v w x y z p q r i j = absurd (h .blank (rw p refl))
-    go false false true v w x y z p q r i j = absurd (h .blank (rw (p, q) refl))
-    go false false false true w x y z p q r i j = absurd (h .bang (eqb-true _ _ r))
-    go false false false false true true y z p q r i j = absurd (h .joins (eqb-true _ _ i) (eqb-true _ _ j))
-    go false false false false true false y z p q r i j = refl
-    go false false false false false x true true p q r i j = refl
-    go false false false false false x true false p q r i j = refl
-    go false false false false false x false z p q r i j = refl
+module _ (b c d : ℕ) (h : Same b c d) (n : b ≡ 13 → c ≡ 10 → ⊥) where
+  same-step : step Start b c d ≡ step Space b c d
+  unfolding step kindOf classOf
+  same-step = rw (ends-feed b c n) (go (eqb b 10) (eqb b 32) (eqb b 9) (eqb b 33) (eqb b 92) (endsLine c d) (eqb b 47) (eqb c 47) refl refl refl refl refl)
+    where
+      go : (l t u v w x y z : Bool) → eqb b 32 ≡ t → eqb b 9 ≡ u → eqb b 33 ≡ v → eqb b 92 ≡ w → endsLine c d ≡ x →
+          cond l (atFeed Start) (atOther Start (cond t Blank (cond u Blank (cond v Bang (cond w (cond x Join Other) (cond y (cond z Slashes Other) (cond l Blank Other)))))) b) ≡
+          cond l (atFeed Space) (atOther Space (cond t Blank (cond u Blank (cond v Bang (cond w (cond x Join Other) (cond y (cond z Slashes Other) (cond l Blank Other)))))) b)
+      go true t u v w x y z p q r i j = refl
+      go false true u v w x y z p q r i j = absurd (h .blank (rw p refl))
+      go false false true v w x y z p q r i j = absurd (h .blank (rw (p, q) refl))
+      go false false false true w x y z p q r i j = absurd (h .bang (eqb-true _ _ r))
+      go false false false false true true y z p q r i j = absurd (no (sym (h .joins (eqb-true _ _ i)) ∙ j))
+      go false false false false true false y z p q r i j = refl
+      go false false false false false x true true p q r i j = refl
+      go false false false false false x true false p q r i j = refl
+      go false false false false false x false z p q r i j = refl
 
--- the rest of a line after its first byte that is no blank: no heading
-same-mark : (b c : ℕ) (r : List ℕ) → Same b c → heading (step Start b c .0 ∷ marks (step Start b c .1) r) ≡ false
-unfolding step kindOf classOf heading
-same-mark b c r h = go (eqb b 10) (eqb b 32) (eqb b 9) (eqb b 33) (eqb b 92) (eqb c 10) (eqb b 47) (eqb c 47) refl refl refl refl refl
+  -- the rest of a line after its first byte that is no blank: no heading
+  same-mark : (r : List ℕ) → heading (step Start b c d .0 ∷ marks (step Start b c d .1) r) ≡ false
+  unfolding step kindOf classOf heading
+  same-mark r = rw (ends-feed b c n) (go (eqb b 10) (eqb b 32) (eqb b 9) (eqb b 33) (eqb b 92) (endsLine c d) (eqb b 47) (eqb c 47) refl refl refl refl refl)
+    where
+      go : (l t u v w x y z : Bool) → eqb b 32 ≡ t → eqb b 9 ≡ u → eqb b 33 ≡ v → eqb b 92 ≡ w → endsLine c d ≡ x →
+          heading (cond l (atFeed Start) (atOther Start (cond t Blank (cond u Blank (cond v Bang (cond w (cond x Join Other) (cond y (cond z Slashes Other) (cond l Blank Other)))))) b) .0 ∷
+          marks (cond l (atFeed Start) (atOther Start (cond t Blank (cond u Blank (cond v Bang (cond w (cond x Join Other) (cond y (cond z Slashes Other) (cond l Blank Other)))))) b) .1) r) ≡ false
+      go true t u v w x y z p q i j k = refl
+      go false true u v w x y z p q i j k = absurd (h .blank (rw p refl))
+      go false false true v w x y z p q i j k = absurd (h .blank (rw (p, q) refl))
+      go false false false true w x y z p q i j k = absurd (h .bang (eqb-true _ _ i))
+      go false false false false true true y z p q i j k = absurd (no (sym (h .joins (eqb-true _ _ j)) ∙ k))
+      go false false false false true false y z p q i j k = refl
+      go false false false false false x true true p q i j k = heading-comment r
+      go false false false false false x true false p q i j k = refl
+      go false false false false false x false z p q i j k = refl
+
+-- CR LF, at the start of a line or between words
+return-marks : (m : Place) (s : List ℕ) (i : ℕ) → ((b : ℕ) → atOther m Blank b ≡ (gap, m)) → atFeed m ≡ (end, Start) → i < length s →
+    getD s i 0 ≡ 13 → first (drop (i + 1) s) ≡ 10 → marks m (drop i s) ≡ gap ∷ end ∷ marks Start (drop (i + 1 + 1) s)
+return-marks m s i o a h e f =
+    let k : i + 1 < length s = first-in s (i + 1) f in
+    let x = step-other m _ _ (first (drop (i + 2) s)) Blank (differ _ 13 10 refl e) (return-class _ _ _ e f) ∙ o (getD s i 0) in
+    rw (marks-at m s i h, x, marks-at m s (i + 1) k, step-feed m _ _ _ (sym (first-drop s (i + 1)) ∙ f), a)
+
+heading-ends : (r : List Mark) → heading (gap ∷ end ∷ r) ≡ false
+unfolding heading
+heading-ends r = refl
+
+-- the marks of a line from its first byte that is no blank on: no heading, and the same as between words
+same-marks : (s : List ℕ) (i : ℕ) → i < length s → Same (getD s i 0) (first (drop (i + 1) s)) (first (drop (i + 2) s)) →
+    (marks Start (drop i s) ≡ marks Space (drop i s)) × (heading (marks Start (drop i s)) ≡ false)
+same-marks s i h e = go (eqb (getD s i 0) 13 && eqb (first (drop (i + 1) s)) 10) refl
   where
-    go : (l t u v w x y z : Bool) → eqb b 32 ≡ t → eqb b 9 ≡ u → eqb b 33 ≡ v → eqb b 92 ≡ w → eqb c 10 ≡ x →
-        heading (cond l (atFeed Start) (atOther Start (cond t Blank (cond u Blank (cond v Bang (cond w (cond x Join Other) (cond y (cond z Slashes Other) Other))))) b) .0 ∷
-        marks (cond l (atFeed Start) (atOther Start (cond t Blank (cond u Blank (cond v Bang (cond w (cond x Join Other) (cond y (cond z Slashes Other) Other))))) b) .1) r) ≡ false
-    go true t u v w x y z p q i j k = refl
-    go false true u v w x y z p q i j k = absurd (h .blank (rw p refl))
-    go false false true v w x y z p q i j k = absurd (h .blank (rw (p, q) refl))
-    go false false false true w x y z p q i j k = absurd (h .bang (eqb-true _ _ i))
-    go false false false false true true y z p q i j k = absurd (h .joins (eqb-true _ _ j) (eqb-true _ _ k))
-    go false false false false true false y z p q i j k = refl
-    go false false false false false x true true p q i j k = heading-comment r
-    go false false false false false x true false p q i j k = refl
-    go false false false false false x false z p q i j k = refl
+    go : (t : Bool) → (eqb (getD s i 0) 13 && eqb (first (drop (i + 1) s)) 10) ≡ t →
+        (marks Start (drop i s) ≡ marks Space (drop i s)) × (heading (marks Start (drop i s)) ≡ false)
+    go true p =
+        let w = pair-yes true (getD s i 0) (first (drop (i + 1) s)) 13 10 (sym p) refl in
+        let x = return-marks Start s i (λ b. refl) refl h (w .0) (w .1) in
+        (x ∙ sym (return-marks Space s i (λ b. refl) refl h (w .0) (w .1)), rw x (heading-ends _))
+    go false p =
+        let n = pair-no false (getD s i 0) (first (drop (i + 1) s)) 13 10 (sym p) refl in
+        (rw (marks-at Start s i h, marks-at Space s i h, same-step _ _ _ e n), rw (marks-at Start s i h) (same-mark _ _ _ e n _))
 
 module _ (s : List ℕ) (from n i m : ℕ) (v : Opened s from n i m) where
   pub opened-end : length s ≤ i → Opens s from n false i m
@@ -395,7 +457,7 @@ module _ (s : List ℕ) (from n i m : ℕ) (v : Opened s from n i m) where
     pub opened-bang : getD s i 0 ≡ 33 → Opens s from n true (i + 1) m
     unfolding left ahead
     opened-bang e =
-        let x = step-other Start _ _ Bang (differ _ 33 10 refl e) (bang-class _ (first (drop (i + 1) s)) e) in
+        let x = step-other Start _ _ _ Bang (differ _ 33 10 refl e) (bang-class _ (first (drop (i + 1) s)) (first (drop (i + 2) s)) e) in
         record {
           low = omega (arith, v .low);
           high = omega arith;
@@ -406,33 +468,24 @@ module _ (s : List ℕ) (from n i m : ℕ) (v : Opened s from n i m) where
           onto = v .onto ∙ rw (marks-at Start s i h, x, lines-bang);
         }
 
-    pub opened-same : Same (getD s i 0) (first (drop (i + 1) s)) → Opens s from n false i m
+    pub opened-same : Same (getD s i 0) (first (drop (i + 1) s)) (first (drop (i + 2) s)) → Opens s from n false i m
     unfolding left ahead
     opened-same e =
-        record {
-          low = v .low;
-          high = v .high;
-          few = v .few;
-          grow = v .grow;
-          mark = v .mark ∙ rw (marks-at Start s i h) (same-mark _ _ _ e);
-          text = v .text ∙ rw (marks-at Start s i h, marks-at Space s i h, same-step _ _ e);
-          onto = v .onto ∙ rw (marks-at Start s i h, marks-at Space s i h, same-step _ _ e);
-        }
+        let w = same-marks s i h e in
+        record { low = v .low; high = v .high; few = v .few; grow = v .grow; mark = v .mark ∙ w .1; text = v .text ∙ rw (w .0); onto = v .onto ∙ rw (w .0) }
 
-    pub opened-joined : (j : ℕ) → getD s i 0 ≡ 92 → first (drop (i + 1) s) ≡ 10 → Blanks s (i + 2) j → Opened s from n j (m + 1)
-    opened-joined j e f w =
-        let k : i + 1 < length s = first-in s (i + 1) f in
-        let q : i + 1 + 1 ≡ i + 2 = omega arith in
-        let g : getD s (i + 1) 0 ≡ 10 = sym (first-drop s (i + 1)) ∙ f in
-        let x = step-other Start _ _ Join (differ _ 92 10 refl e) (join-class _ _ e f) in
+    pub opened-joined : (z j : ℕ) → JoinAt s i z → Blanks s z j → Opened s from n j (m + 1)
+    opened-joined z j u w =
+        let g = joined-start s (i + 1) z (u .feed) in
+        let x = step-other Start _ _ _ Join (differ _ 92 10 refl (u .slash)) (join-class _ _ _ (u .slash) (join-ends s i z u)) in
         record {
-          low = omega (arith, v .low, w .low);
+          low = omega (arith, v .low, u .feed .low, w .low);
           high = w .high;
-          few = omega (arith, v .few, w .low);
-          grow = omega (arith, v .grow, w .low);
-          mark = v .mark ∙ (rw (marks-at Start s i h, x, heading-gap, marks-at JoinStart s (i + 1) k, step-feed JoinStart _ _ g, heading-join, q) (w .mark₀));
-          text = v .text ∙ (rw (marks-at Start s i h, x, words-gap, marks-at JoinStart s (i + 1) k, step-feed JoinStart _ _ g, words-join, q) (w .text₀));
-          onto = v .onto ∙ (rw (marks-at Start s i h, x, lines-gap, marks-at JoinStart s (i + 1) k, step-feed JoinStart _ _ g, lines-join, q) (w .onto₀ (m + 1)));
+          few = omega (arith, v .few, u .feed .low, w .low);
+          grow = omega (arith, v .grow, u .feed .low, w .low);
+          mark = v .mark ∙ rw (marks-at Start s i h, x, heading-gap) (g .mark ∙ w .mark₀);
+          text = v .text ∙ rw (marks-at Start s i h, x, words-gap) (g .text ∙ w .text₀);
+          onto = v .onto ∙ rw (marks-at Start s i h, x, lines-gap) (g .onto m ∙ w .onto₀ (m + 1));
         }
 
 -- the refusals of a line's words
@@ -514,31 +567,50 @@ module _ (s : List ℕ) (f i : ℕ) (v : Fenced s f) (h : i < f) where
           let q : f - 1 ≡ i = omega arith in
           absurd (n (rw q at (v .last (omega arith))))
 
-  pub fence-join : getD s i 0 ≡ 92 → getD s (i + 1) 0 ≡ 10 → i + 2 < f
-  fence-join a b = go (ltb (i + 2) f) refl
-    where
-      go : (t : Bool) → ltb (i + 2) f ≡ t → i + 2 < f
-      go true e = ltb-true _ _ e
-      go false e =
-          let m : i + 1 < f = fence-more (differ _ 92 10 refl a) in
-          let k : f ≤ i + 2 = ltb-false _ _ e in
-          let q : f - 2 ≡ i = omega arith in
-          absurd (v .free (omega arith) (rw q a))
-
   pub fence-in : i < length s
   fence-in = omega (arith, h, v .high)
-
-  pub fence-joined : getD s i 0 ≡ 92 → first (drop (i + 1) s) ≡ 10 → i + 2 < f
-  fence-joined a b = fence-join a (sym (first-drop s (i + 1)) ∙ b)
 
   pub fence-plain : badByte (getD s i 0) ≡ false → i + 1 < f
   fence-plain b = fence-more (λ e. omega (arith, not-bad _ b .least, e))
 
   pub fence-blank : kindOf (getD s i 0) ≡ 1 → i + 1 < f
-  fence-blank k = fence-more (eqb-false _ _ (kind-one (getD s i 0) 0 k .1))
+  fence-blank k = fence-more (eqb-false _ _ (kind-one (getD s i 0) 0 0 k .1))
+
+-- a line end that is joined stands before the fence
+joined-high : (s : List ℕ) (f i z : ℕ) → Fenced s f → i < f → JoinAt s i z → z ≤ f
+joined-high s f i z v h u =
+    let k : i + 1 < f = fence-more s f i v h (differ _ 92 10 refl (u .slash)) in
+    ⊎-elim
+    (λ (w : (z ≡ i + 1 + 1) × (getD s (i + 1) 0 ≡ 10)). omega (arith, w .0))
+    (λ (w : (z ≡ i + 1 + 2) × ((getD s (i + 1) 0 ≡ 13) × (getD s (i + 1 + 1) 0 ≡ 10))).
+    omega (arith, w .0, fence-more s f (i + 1) v k (differ _ 13 10 refl (w .1 .0))))
+    (u .feed .cases)
+
+pub fence-joined : (s : List ℕ) (f i z : ℕ) → Fenced s f → i < f → JoinAt s i z → z < f
+fence-joined s f i z v h u = go (eqb z f) refl
+  where
+    go : (t : Bool) → eqb z f ≡ t → z < f
+    go true q =
+        let x = eqb-true z f q in
+        let k : 0 < f = omega (arith, h) in
+        absurd (no (sym (v .free k) ∙ rw x at (slash-join s i z u .0)))
+    go false q = let x = eqb-false z f q in omega (arith, joined-high s f i z v h u)
 
 pub fenced-none : (s : List ℕ) → Fenced s 0
-fenced-none s = record { high = omega arith; last = λ h. absurd (let z : _≡_ {A = ℕ} 0 1 = omega (arith, h) in eqb-false 0 1 refl z); free = λ h e. let z : _≡_ {A = ℕ} 0 1 = omega (arith, h) in eqb-false 0 1 refl z }
+fenced-none s = record { high = omega arith; last = λ h. absurd (omega (arith, h)); free = λ h. absurd (omega (arith, h)) }
+
+-- the fence of a part of the file
+pub fence-part : (s : List ℕ) (f from : ℕ) → Fenced s f → Fenced (drop from s) (f - from)
+fence-part s f from v =
+    record {
+      high = simp length-drop (omega (arith, v .high));
+      last = λ h.
+          let q : from + (f - from - 1) ≡ f - 1 = omega (arith, h) in
+          getD-drop from s (f - from - 1) 0 ∙ rw q (v .last (omega (arith, h)));
+      free = λ h.
+          let q : f - 1 ≡ from + (f - from - 1) = omega (arith, h) in
+          slash-drop s from (f - from - 1) (rw q at (v .free (omega (arith, h))));
+    }
 
 -- the loop of `run_end`, and of `skip_fast`
 pub record FastRun (s : List ℕ) (f m from i : ℕ) : Type 0 where
@@ -581,37 +653,19 @@ over-level r l m e h = omega arith
 pub run-plain : (s : List ℕ) (from i : ℕ) → RunEnd s 1 from i → PlainEnd s from i
 run-plain s from i v = record { read = v .read; clean = v .clean; stop = λ h. level-bad (getD s i 0) (v .stop) }
 
-kind-bad : (b : ℕ) → (kindOf b ≡ 0 → ⊥) → kindOf b ≤ 2 → badByte b ≡ true
-unfolding kindOf badByte
-kind-bad b = go (eqb b 32) (eqb b 9) (eqb b 10) (eqb b 47) refl refl refl
-  where
-    go : (t u v x : Bool) → eqb b 32 ≡ t → eqb b 9 ≡ u → eqb b 10 ≡ v → (pick t u v (badByte b) x ≡ 0 → ⊥) → pick t u v (badByte b) x ≤ 2 → badByte b ≡ true
-    go true u v x p q r n l = rw (eqb-true b 32 p) refl
-    go false true v x p q r n l = rw (eqb-true b 9 q) refl
-    go false false true x p q r n l = rw (eqb-true b 10 r) refl
-    go false false false x p q r n l = bad (badByte b) refl n l
-      where
-        bad : (w : Bool) → badByte b ≡ w → (pick false false false w x ≡ 0 → ⊥) → pick false false false w x ≤ 2 → badByte b ≡ true
-        bad true e n l = e
-        bad false e n l = slash x n l
-          where
-            slash : (y : Bool) → (pick false false false false y ≡ 0 → ⊥) → pick false false false false y ≤ 2 → badByte b ≡ true
-            slash true n l = absurd (omega (arith, l))
-            slash false n l = absurd (n refl)
-
 -- a plain word, from its first byte on
 pub value-found : (s : List ℕ) (f from i p : ℕ) → Fenced s f → Skipped s from i → i < f → kindOf (getD s i 0) ≡ 0 → (getD s i 0 ≡ 37 → ⊥) →
-    RunEnd s 0 (i + 1) p → p < f → (kindOf (getD s p 0) ≡ 0 → ⊥) → kindOf (getD s p 0) ≤ 2 → p ≤ i + 256 →
+    RunEnd s 0 (i + 1) p → p < f → (kindOf (getD s p 0) ≡ 0 → ⊥) → endsPlain (getD s p 0) (first (drop (p + 1) s)) ≡ true → p ≤ i + 256 →
     PlainFound s f from i p × (anyOf (λ b. eqb b 37) (part s i p) ≡ false)
 unfolding anyOf
 value-found s f from i p v k h z y r l m n o =
     let a = fence-in s f i v h in
-    let e : PlainEnd s (i + 1) p = record { read = r .read; clean = r .clean; stop = λ q. kind-bad (getD s p 0) m n } in
+    let e : PlainEnd s (i + 1) p = record { read = r .read; clean = r .clean; stop = λ q. ends-bad (getD s p 0) _ m n } in
     let lo : i < p = omega (arith, r .read .low) in (
       record {
         found = λ q j.
-            between-word s from q i q (between-skip s from q i j (k .blanks)) a p 0 (kind-zero (getD s i 0) (first (drop (i + 1) s)) z .0)
-            (plain-word s i p a (kind-zero (getD s i 0) 0 z .1) e (fence-in s f p v l) n o);
+            between-word s from q i q (between-skip s from q i j (k .blanks)) a p 0 (kind-zero (getD s i 0) (first (drop (i + 1) s)) (first (drop (i + 2) s)) z .0)
+            (plain-word s i p a (kind-zero (getD s i 0) 0 0 z .1) e (fence-in s f p v l) n o);
         inside = l;
       },
       rw (part-cons s i p lo (r .read .high)) (first-none (eqb (getD s i 0) 37) refl (none-percent (part s (i + 1) p) (r .below))),
@@ -625,12 +679,12 @@ value-found s f from i p v k h z y r l m n o =
 -- a byte of kind 1 or 2 has the highest level
 kind-level : (b : ℕ) → (kindOf b ≡ 0 → ⊥) → kindOf b ≤ 2 → 0 < levelOf b
 unfolding levelOf
-kind-level b n l = rw (kind-bad b n l) (omega arith)
+kind-level b n l = rw (ends-bad b 0 n (low-ends b 0 l)) (omega arith)
 
 pub byte-next : (s : List ℕ) (f i b : ℕ) → Fenced s f → i < f → getD s i 0 ≡ b → kindOf b ≡ 0 → i + 1 < length s
 byte-next s f i b v h e z =
     let p : kindOf (getD s i 0) ≡ 0 = rw e z in
-    fence-in s f (i + 1) v (fence-plain s f i v h (kind-zero (getD s i 0) 0 p .1))
+    fence-in s f (i + 1) v (fence-plain s f i v h (kind-zero (getD s i 0) 0 0 p .1))
 
 -- a word of one byte
 pub byte-found : (s : List ℕ) (f from i b : ℕ) → Fenced s f → Skipped s from i → i < f → getD s i 0 ≡ b → kindOf b ≡ 0 → (b ≡ 37 → ⊥) →
@@ -638,11 +692,11 @@ pub byte-found : (s : List ℕ) (f from i b : ℕ) → Fenced s f → Skipped s 
 byte-found s f from i b v k h e z y m n =
     let a = fence-in s f i v h in
     let p : kindOf (getD s i 0) ≡ 0 = rw e z in
-    let l : i + 1 < f = fence-plain s f i v h (kind-zero (getD s i 0) 0 p .1) in
+    let l : i + 1 < f = fence-plain s f i v h (kind-zero (getD s i 0) 0 0 p .1) in
     let r = fast-stop s f 0 (i + 1) (i + 1) (fast-start s f 0 (i + 1) v l) (kind-level (getD s (i + 1) 0) m n) in
     record {
       start = i;
-      word = value-found s f from i (i + 1) v k h p (λ q. y (sym e ∙ q)) (r .0) l m n (omega arith) .0;
+      word = value-found s f from i (i + 1) v k h p (λ q. y (sym e ∙ q)) (r .0) l m (low-ends _ _ n) (omega arith) .0;
       text = part-cons s i (i + 1) (omega arith) (omega (arith, fence-in s f (i + 1) v l)) ∙ rw (e, part-empty s (i + 1)) refl;
     }
 
@@ -695,13 +749,3 @@ made-end s i n r p m q h = rw q at h
 
 pub made-rest : (s : List ℕ) (i n : ℕ) (r : Fast) (p m : ℕ) → r ≡ fast.Rest p m → FastWord s i n r → Between s i n p m
 made-rest s i n r p m q h = rw q at h
-
--- two bytes, side by side
-pub pair-yes : (r : Bool) (b c k m : ℕ) → r ≡ (eqb b k && eqb c m) → r ≡ true → (b ≡ k) × (c ≡ m)
-pair-yes r b c k m e h = let w = and-both (eqb b k) (eqb c m) (sym e ∙ h) in (eqb-true b k (w .0), eqb-true c m (w .1))
-
-pub pair-no : (r : Bool) (b c k m : ℕ) → r ≡ (eqb b k && eqb c m) → r ≡ false → b ≡ k → c ≡ m → ⊥
-pair-no r b c k m e h p q = no (sym (sym e ∙ h) ∙ rw (eq-eqb b k p, eq-eqb c m q) refl)
-
-pub pair-joins : (s : List ℕ) (i : ℕ) (r : Bool) → r ≡ (eqb (getD s i 0) 92 && eqb (first (drop (i + 1) s)) 10) → r ≡ true → i + 2 ≤ length s
-pair-joins s i r e h = join-in s i (pair-yes r (getD s i 0) (first (drop (i + 1) s)) 92 10 e h .1)

@@ -1,9 +1,10 @@
--- The lines of a file and their words, from the marks of its bytes. Document 01, "Lines and words".
+-- The lines of a file and their words, from the marks of its bytes. Document 01, "Lines and words"; document 02, #103.
 use Prim.Native.Nat.{ℕ, _+_}
 use mathlib.Core.List.{List, [], _∷_}
-use mathlib.Core.Bool.{Bool, true, false, not}
+use mathlib.Core.Bool.{Bool, true, false, not, cond}
+use lib.Dec.{eqb}
 use Rattle.text.specs.declared.Place.the-variants.{Start}
-use Rattle.text.specs.Bytes.{Text, Words}
+use Rattle.text.specs.Bytes.{Text, Words, anyOf}
 use Rattle.text.specs.Marks.{Mark, char, gap, join, bang, end, marks}
 
 -- the bytes that go on with a word
@@ -71,6 +72,15 @@ unfoldable pub closedFrom : Bool → List Mark → Bool
 closedFrom f [] = not f
 closedFrom f (y ∷ r) = closedFrom (inside y) r
 
--- The first file of demand 3 is empty or ends with a newline that ends a line.
+-- The first file of demand 3 is empty or ends with a newline that ends a line. "Demand 3 counts CR LF as one newline."
 unfoldable pub closed : Text → Bool
 closed s = closedFrom false (marks Start s)
+
+-- "every LF then made CR LF"
+unfoldable pub crlf : Text → Text
+crlf [] = []
+crlf (b ∷ r) = cond (eqb b 10) (13 ∷ 10 ∷ crlf r) (b ∷ crlf r)
+
+-- there is no CR in a file
+unfoldable pub noReturn : Text → Bool
+noReturn s = not (anyOf (λ b. eqb b 13) s)

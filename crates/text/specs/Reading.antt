@@ -3,7 +3,7 @@ use mathlib.Core.Path.{_≡_}
 use Prim.Native.Nat.{ℕ, zero, suc, min, _+_, _-_, _≤_, _<_}
 use mathlib.Core.List.{List, [], _∷_, _++_}
 use mathlib.Core.Bool.{Bool, true, false, not, _||_, _&&_, cond}
-use lib.Dec.{eqb, leb}
+use lib.Dec.{eqb, ltb, leb}
 use lib.ListN.{length, drop, getD}
 use Rattle.text.specs.declared.Class.{Class}
 use Rattle.text.specs.declared.Class.the-variants.{Blank, Join, Slashes, Bang, Other}
@@ -14,8 +14,8 @@ use Rattle.text.specs.declared.Fast.the-variants as fast
 use Rattle.text.specs.declared.Plain.{Plain}
 use Rattle.text.specs.declared.Plain.the-variants as plain
 use Rattle.text.specs.declared.Place.the-variants.{Start, Space, Word, Comment}
-use Rattle.text.specs.Bytes.{Words, allOf, anyOf, part}
-use Rattle.text.specs.Marks.{classOf, marks}
+use Rattle.text.specs.Bytes.{Words, first, allOf, anyOf, part}
+use Rattle.text.specs.Marks.{endsLine, classOf, marks}
 use Rattle.text.specs.Lines.{run, words, heading, Line, linesOf}
 use Rattle.text.specs.Words.{badByte, tooLong}
 
@@ -31,8 +31,18 @@ wordly Slashes = true
 wordly Bang = true
 wordly Other = true
 
-unfoldable pub inWord : ℕ → ℕ → Bool
-inWord b c = cond (eqb b 10) false (wordly (classOf b c))
+unfoldable pub inWord : ℕ → ℕ → ℕ → Bool
+inWord b c d = cond (eqb b 10) false (wordly (classOf b c d))
+
+-- behind the line end at i, LF or CR LF; 0 where none stands there
+unfoldable pub feedEnd : List ℕ → ℕ → ℕ
+feedEnd s i =
+    cond (eqb (first (drop i s)) 10) (i + 1)
+    (cond (endsLine (first (drop i s)) (first (drop (i + 1) s))) (i + 2) 0)
+
+-- behind the line end that a backslash at i joins; 0 where it joins none
+unfoldable pub joinEnd : List ℕ → ℕ → ℕ
+joinEnd s i = cond (eqb (getD s i 0) 92) (feedEnd s (i + 1)) 0
 
 -- the lines after the one that is being read: from a position in its words on, and from the start of a line on
 unfoldable pub ahead : List ℕ → ℕ → ℕ → List Line
@@ -62,15 +72,24 @@ kindOf b = cond (eqb b 32) 1 (cond (eqb b 9) 1 (cond (eqb b 10) 2 (cond (badByte
 unfoldable pub beginsPlain : ℕ → ℕ → Bool
 beginsPlain b c = eqb (kindOf b) 0 || (eqb b 47 && not (eqb c 47))
 
+-- the byte b with c behind it ends a plain word: a blank or a line end
+unfoldable pub endsPlain : ℕ → ℕ → Bool
+endsPlain b c = leb (kindOf b) 2 || endsLine b c
+
 pub record Table (t : List ℕ) : Type 0 where
   pub levels : (b : ℕ) → b < 256 → getD t b 0 ≡ levelOf b
   pub kinds : (b : ℕ) → b < 256 → getD t (256 + b) 0 ≡ kindOf b
+
+-- a backslash stands before the line end whose LF is at i, LF or CR LF
+unfoldable pub slashBefore : List ℕ → ℕ → Bool
+slashBefore s i =
+    ltb 0 i && cond (eqb (getD s (i - 1) 0) 13) (ltb 1 i && eqb (getD s (i - 2) 0) 92) (eqb (getD s (i - 1) 0) 92)
 
 -- the byte before f is a LF that ends a line, whatever stands before it; or f is 0
 pub record Fenced (s : List ℕ) (f : ℕ) : Type 0 where
   pub high : f ≤ length s
   pub last : 0 < f → getD s (f - 1) 0 ≡ 10
-  pub free : 1 < f → getD s (f - 2) 0 ≡ 92 → ⊥
+  pub free : 0 < f → slashBefore s (f - 1) ≡ false
 
 -- what the readers ask
 pub record Within (s t : List ℕ) (fence from line : ℕ) : Type 0 where

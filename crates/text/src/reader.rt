@@ -6,7 +6,7 @@ ghost use lib.Dec.{eqb};
 ghost use lib.ListN.{length, getD, drop};
 ghost use Rattle.text.specs.Bytes.{first, part, anyOf};
 ghost use Rattle.text.specs.Words.{badByte};
-ghost use Rattle.text.specs.Reading.{WordEnd, PlainEnd, RunEnd, Skipped, OddWord, CommentEnd, FastWord, PlainWord, ValueWord, ByteWord, NextWord, FirstFeed, Passed, Opens, Table, Fenced, Within, kindOf, beginsPlain};
+ghost use Rattle.text.specs.Reading.{WordEnd, PlainEnd, RunEnd, Skipped, OddWord, CommentEnd, FastWord, PlainWord, ValueWord, ByteWord, NextWord, FirstFeed, Passed, Opens, Table, Fenced, Within, kindOf, beginsPlain, endsPlain, feedEnd, joinEnd, slashBefore};
 use super::Fast;
 use super::LineStart;
 use super::Next;
@@ -14,18 +14,37 @@ use super::Opening;
 use super::Plain;
 use super::WordAt;
 use super::bytes::bad_byte;
+use super::bytes::ends_line;
 use super::bytes::in_word;
 use super::bytes::kind;
 use super::bytes::level;
 use super::bytes::peek;
 
+// Whether a backslash stands before the line end whose LF is at i: it joins, unless it stands in a comment.
+fn slash_before(s: &[u8], i: usize) -> bool
+    requires { ⌜ i < length (now s) ⌝ }
+    ensures { λ r. ⌜ r ≡ slashBefore (now (s .entry)) i ⌝ }
+{
+    if i == 0 {
+        return false;
+    }
+    let b = s[i - 1];
+    if b != 13 {
+        return b == 92;
+    }
+    if i == 1 {
+        return false;
+    }
+    s[i - 2] == 92
+}
+
 pub fn fence_of(s: &[u8]) -> usize
     ensures { λ r. ⌜ Fenced (now (s .entry)) r ⌝ }
 {
     let mut f = s.len();
-    while 1 < f {
+    while 0 < f {
         if s[f - 1] == 10 {
-            if s[f - 2] != 92 {
+            if !slash_before(s, f - 1) {
                 return f;
             }
         }
@@ -40,7 +59,7 @@ pub fn word_end(s: &[u8], from: usize) -> usize
 {
     let mut i = from;
     while i < s.len() {
-        if !in_word(s[i], peek(s, i + 1)) {
+        if !in_word(s[i], peek(s, i + 1), peek(s, i + 2)) {
             return i;
         }
         i += 1;
@@ -150,6 +169,35 @@ pub fn comment_end(s: &[u8], from: usize) -> usize
     i
 }
 
+// Behind the line end at i, LF or CR LF; 0 where none stands there.
+pub fn feed_end(s: &[u8], i: usize) -> usize
+    requires { ⌜ i ≤ length (now s) ⌝ }
+    ensures { λ r. ⌜ r ≡ feedEnd (now (s .entry)) i ⌝ }
+{
+    let b = peek(s, i);
+    if b == 10 {
+        return i + 1;
+    }
+    if b != 13 {
+        return 0;
+    }
+    if peek(s, i + 1) != 10 {
+        return 0;
+    }
+    i + 2
+}
+
+// Behind the line end that the backslash at i joins; 0 where none stands there.
+fn join_end(s: &[u8], i: usize) -> usize
+    requires { ⌜ i < length (now s) ⌝ }
+    ensures { λ r. ⌜ r ≡ joinEnd (now (s .entry)) i ⌝ }
+{
+    if s[i] != 92 {
+        return 0;
+    }
+    feed_end(s, i + 1)
+}
+
 // Whether the bytes at i and behind it are a and b.
 fn is_pair(s: &[u8], i: usize, a: u8, b: u8) -> bool
     requires { ⌜ i < length (now s) ⌝ }
@@ -168,9 +216,10 @@ pub fn next_slow(s: &[u8], t: &[u8; 512], from: usize, line: usize) -> Next
     let mut i = skip(s, t, from);
     let mut l = line;
     while i < s.len() {
-        if s[i] == 10 {
+        let e = feed_end(s, i);
+        if e != 0 {
             return Next::Stop {
-                next: i + 1,
+                next: e,
                 line: l + 1,
             };
         }
@@ -180,7 +229,8 @@ pub fn next_slow(s: &[u8], t: &[u8; 512], from: usize, line: usize) -> Next
                 line: l + 1,
             };
         }
-        if !is_pair(s, i, 92, 10) {
+        let j = join_end(s, i);
+        if j == 0 {
             let w = odd_word(s, i);
             return Next::Found {
                 start: i,
@@ -190,9 +240,21 @@ pub fn next_slow(s: &[u8], t: &[u8; 512], from: usize, line: usize) -> Next
             };
         }
         l += 1;
-        i = skip(s, t, i + 2);
+        i = skip(s, t, j);
     }
     Next::Stop { next: i, line: l }
+}
+
+// Whether a plain word ends before the byte at i: a blank or a line end.
+fn ends_plain(s: &[u8], t: &[u8; 512], fence: usize, i: usize) -> bool
+    requires { ⌜ (i < fence) × (Table (now t) × Fenced (now s) fence) ⌝ }
+    ensures { λ r. ⌜ r ≡ endsPlain (getD (now (s .entry)) i 0) (first (drop (i + 1) (now (s .entry)))) ⌝ }
+{
+    let b = s[i];
+    if kind(t, b) <= 2 {
+        return true;
+    }
+    ends_line(b, peek(s, i + 1))
 }
 
 pub fn next_fast(s: &[u8], t: &[u8; 512], fence: usize, from: usize, line: usize) -> Fast
@@ -214,7 +276,7 @@ pub fn next_fast(s: &[u8], t: &[u8; 512], fence: usize, from: usize, line: usize
         }
         if kind(t, b) == 0 {
             let p = plain_end(s, t, fence, i + 1);
-            if 2 < kind(t, s[p]) {
+            if !ends_plain(s, t, fence, p) {
                 return Fast::Rest { at: i, line: l };
             }
             if i + 256 < p {
@@ -226,14 +288,19 @@ pub fn next_fast(s: &[u8], t: &[u8; 512], fence: usize, from: usize, line: usize
                 line: l,
             };
         }
-        if b != 92 {
-            return Fast::Rest { at: i, line: l };
+        let e = feed_end(s, i);
+        if e != 0 {
+            return Fast::End {
+                next: e,
+                line: l + 1,
+            };
         }
-        if peek(s, i + 1) != 10 {
+        let j = join_end(s, i);
+        if j == 0 {
             return Fast::Rest { at: i, line: l };
         }
         l += 1;
-        i = skip_fast(s, t, fence, i + 2);
+        i = skip_fast(s, t, fence, j);
     }
 }
 
@@ -278,7 +345,7 @@ pub fn plain_word(s: &[u8], t: &[u8; 512], fence: usize, from: usize) -> Plain
         return Plain::Other;
     }
     let p = plain_end(s, t, fence, i + 1);
-    if 2 < kind(t, s[p]) {
+    if !ends_plain(s, t, fence, p) {
         return Plain::Other;
     }
     if i + 256 < p {
@@ -301,11 +368,10 @@ pub fn value_word(s: &[u8], t: &[u8; 512], fence: usize, from: usize) -> Plain
         return Plain::Other;
     }
     let p = run_end(s, t, fence, i + 1, 0);
-    let k = kind(t, s[p]);
-    if k == 0 {
+    if kind(t, s[p]) == 0 {
         return Plain::Other;
     }
-    if 2 < k {
+    if !ends_plain(s, t, fence, p) {
         return Plain::Other;
     }
     if i + 256 < p {
@@ -367,14 +433,8 @@ pub fn open_line(s: &[u8], t: &[u8; 512], from: usize, line: usize) -> Opening
                 line: l,
             };
         }
-        if b != 92 {
-            return Opening {
-                heading: false,
-                at: i,
-                line: l,
-            };
-        }
-        if peek(s, i + 1) != 10 {
+        let j = join_end(s, i);
+        if j == 0 {
             return Opening {
                 heading: false,
                 at: i,
@@ -382,7 +442,7 @@ pub fn open_line(s: &[u8], t: &[u8; 512], from: usize, line: usize) -> Opening
             };
         }
         l += 1;
-        i = skip(s, t, i + 2);
+        i = skip(s, t, j);
     }
     Opening {
         heading: false,
@@ -439,7 +499,8 @@ fn pass_words(s: &[u8], t: &[u8; 512], fence: usize, from: usize, line: usize) -
     }
 }
 
-// The rest of a line passed over, from where a word would begin. Only a backslash before the first LF makes it look at words: it may join, or stand in a comment.
+// The rest of a line passed over, from where a word would begin. Only a backslash before the first line end makes it look at words: it may join, or
+// stand in a comment.
 pub fn pass_line(s: &[u8], t: &[u8; 512], fence: usize, from: usize, line: usize) -> LineStart
     requires { ⌜ Within (now s) (now t) fence from line ⌝ }
     ensures { λ r. ⌜ Passed (now (s .entry)) from line (r .at) (r .line) ⌝ }
@@ -448,10 +509,8 @@ pub fn pass_line(s: &[u8], t: &[u8; 512], fence: usize, from: usize, line: usize
         return pass_words(s, t, fence, from, line);
     }
     let i = first_feed(s, fence, from);
-    if from < i {
-        if s[i - 1] == 92 {
-            return pass_words(s, t, fence, from, line);
-        }
+    if slash_before(s, i) {
+        return pass_words(s, t, fence, from, line);
     }
     LineStart {
         at: i + 1,

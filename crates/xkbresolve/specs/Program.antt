@@ -1,18 +1,19 @@
--- The program: what it reads and what it prints. Document 01, "Checked examples".
+-- The program: what it reads and what it prints. Document 01, "Checked examples"; document 02, #103.
 use Prim.Native.Nat.{ℕ, zero, suc, _+_, _*_, _/_, _%_}
 use mathlib.Core.List.{List, [], _∷_, _++_}
 use mathlib.Core.Bool.{cond}
 use lib.ListN.{length, getD}
 use lib.Dec.{eqb, ltb}
 use Rattle.text.specs.Limits.{longestFile}
-use Rattle.text.specs.Bytes.{Text, bytes}
+use Rattle.text.specs.Bytes.{Text, bytes, first}
+use Rattle.text.specs.Marks.{endsLine}
 use Rattle.profile.specs.Profile.{Texts, textsOf}
 use Rattle.answers.specs.Answer.{Answer, refused, accepted, answer, stretch}
 
--- a text up to its first LF, and what stands behind that
+-- a text up to its first line end ("The program drops a CR directly before LF in its four text lines too."), and what stands behind its first LF
 unfoldable pub firstLine : Text → Text
 firstLine [] = []
-firstLine (b ∷ s) = let r = firstLine s in cond (eqb b 10) [] (b ∷ r)
+firstLine (b ∷ s) = let r = firstLine s in cond (endsLine b (first s)) [] (b ∷ r)
 
 unfoldable pub laterLines : Text → Text
 laterLines [] = []

@@ -8,8 +8,9 @@ use lib.ListN.{length, drop}
 use lib.Dec.{ltb}
 use borrow.Author.Tests.{lt-ltb, le-ltb, ltb-true, ltb-false, lt-leb}
 use Rattle.text.specs.declared.Refusal.{Refusal}
-use Rattle.text.specs.Limits.{longestTotal}
+use Rattle.text.specs.Limits.{longestFile, longestTotal}
 use Rattle.text.specs.Bytes.{Text}
+use Rattle.text.specs.Lines.{crlf, noReturn}
 use Rattle.text.specs.Refusals.{refusedIf}
 use Rattle.text.proofs.Lists.{nil-right}
 use Rattle.profile.specs.Profile.{Texts}
@@ -19,6 +20,7 @@ use Rattle.profile.proofs.Counts.{untested}
 use Rattle.answers.specs.Answer.{tenTexts, sum, total, refusals, Answer, refused, accepted, firstOf, answer, lengthsOf, stretchStart, stretchLength, Answered}
 use Rattle.answers.proofs.Answers.{accepted-first, answered}
 use Rattle.answers.proofs.Accepted.{texts-fit}
+use Rattle.answers.proofs.LineEnds.{crlf-texts, crlf-refusals}
 use Rattle.xkbrules.specs.Sheet.{sheetLength, entryRefusals, entryAnswer, sheetAfter, lengthsIn, componentCode}
 use Rattle.xkbrules.proofs.Sheet.{sheet-lengths, sheet-later, sheet-long}
 
@@ -101,3 +103,7 @@ pub entry-options : (room sheet : ℕ) (f : Text) (t : Texts) (o o′ : Text) �
     entryAnswer room sheet f (withOptions t o) ≡ entryAnswer room sheet f (withOptions t o′)
 unfolding entryAnswer entryRefusals refusals tenTexts
 entry-options room sheet f t o o′ h w w′ = rw (same-refusals t o o′ h w w′, same-profile t o o′ h)
+
+pub entry-lines : (room sheet : ℕ) (f : Text) (t : Texts) → noReturn f ≡ true → length (crlf f) ≤ longestFile → entryAnswer room sheet (crlf f) t ≡ entryAnswer room sheet f t
+unfolding entryAnswer entryRefusals
+entry-lines room sheet f t h l = rw (crlf-refusals f t h l room, crlf-texts f t h l)

@@ -9,7 +9,7 @@ use crate::second::Requests;
 /// called as #101 has it, else as before: with one unnamed file.
 pub const LANDED: Requests = Requests {
     bundles: false,
-    cr_lf: false,
+    cr_lf: true,
     order: true,
 };
 

@@ -1,6 +1,6 @@
+use borrow.Author.Needs.{needs}
 use Rattle.text.specs.Reading.{inWord, wordly}
 use Rattle.text.proofs.Positions.{in-word-of}
-use borrow.Author.Needs.{needs}
 use Rattle.text.proofs.bytes.in_word.Statement.{statement}
 use Rattle.text.proofs.bytes.in_word.Tie as tie
 
@@ -28,23 +28,33 @@ enum-told-5 c = search needs
 
 returns-2 : tie.Need-returns-2
 unfolding wordly
-returns-2 c = rw (in-word-of _ _ _ (c .before .before .before .if1 .left) (c .before .before .class-of .ensures), c .enum-told .given .1)
+returns-2 c =
+    let the-if1 = c .before .before .before .if1 in
+    rw (in-word-of _ _ _ _ (the-if1 .left) (c .before .before .class-of .ensures), c .enum-told .given .1)
 
 returns-3 : tie.Need-returns-3
 unfolding wordly
-returns-3 c = rw (in-word-of _ _ _ (c .before .before .before .if1 .left) (c .before .before .class-of .ensures), c .enum-told2 .given .1)
+returns-3 c =
+    let the-if1 = c .before .before .before .if1 in
+    rw (in-word-of _ _ _ _ (the-if1 .left) (c .before .before .class-of .ensures), c .enum-told2 .given .1)
 
 returns-4 : tie.Need-returns-4
 unfolding wordly
-returns-4 c = rw (in-word-of _ _ _ (c .before .before .before .if1 .left) (c .before .before .class-of .ensures), c .enum-told3 .given .1)
+returns-4 c =
+    let the-if1 = c .before .before .before .if1 in
+    rw (in-word-of _ _ _ _ (the-if1 .left) (c .before .before .class-of .ensures), c .enum-told3 .given .1)
 
 returns-5 : tie.Need-returns-5
 unfolding wordly
-returns-5 c = rw (in-word-of _ _ _ (c .before .before .before .if1 .left) (c .before .before .class-of .ensures), c .enum-told4 .given .1)
+returns-5 c =
+    let the-if1 = c .before .before .before .if1 in
+    rw (in-word-of _ _ _ _ (the-if1 .left) (c .before .before .class-of .ensures), c .enum-told4 .given .1)
 
 returns-6 : tie.Need-returns-6
 unfolding wordly
-returns-6 c = rw (in-word-of _ _ _ (c .before .before .before .if1 .left) (c .before .before .class-of .ensures), c .enum-told5 .given .1)
+returns-6 c =
+    let the-if1 = c .before .before .before .if1 in
+    rw (in-word-of _ _ _ _ (the-if1 .left) (c .before .before .class-of .ensures), c .enum-told5 .given .1)
 
 pub in-word-spec : {M : Type 1} → statement M
 in-word-spec =

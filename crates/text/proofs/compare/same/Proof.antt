@@ -35,7 +35,9 @@ returns-3 : tie.Need-returns-3 Inv-loop μ-loop
 returns-3 c = sym (same-differ _ _ _ (c .if3 .taken))
 
 loop-holds : tie.Need-loop-holds Inv-loop μ-loop
-loop-holds c = alike-start _ _ (c .before .before .before .before .if1 .left) 0 (omega arith)
+loop-holds c =
+    let the-if1 = c .before .before .before .before .if1 in
+    alike-start _ _ (the-if1 .left) 0 (omega arith)
 
 add-loop : tie.Need-add-loop Inv-loop μ-loop
 add-loop c = search needs
@@ -101,10 +103,19 @@ loop-less : tie.Need-loop-less Inv-loop μ-loop
 loop-less c = search needs
 
 loop-again : tie.Need-loop-again Inv-loop μ-loop
-loop-again c = alike-four _ _ (c .before .before .before .before .before .before .before .before .before .before .before .before .before .before .before .before .before .before .if1 .left) 0 _ (c .before .before .before .before .before .before .before .before .before .before .before .before .before .loop .inv) (c .before .before .before .before .before .before .before .before .before .before .before .before .loop-test .taken) (c .before .before .before .before .before .before .before .before .before .if4 .left) (c .before .before .before .before .before .before .if5 .left) (c .before .before .before .if6 .left) (c .if7 .left)
+loop-again c =
+    let the-if1 = c .before .before .before .before .before .before .before .before .before .before .before .before .before .before .before .before .before .before .if1 in
+    let the-loop = c .before .before .before .before .before .before .before .before .before .before .before .before .before .loop in
+    let the-loop-test = c .before .before .before .before .before .before .before .before .before .before .before .before .loop-test in
+    let the-if4 = c .before .before .before .before .before .before .before .before .before .if4 in
+    let the-if5 = c .before .before .before .before .before .before .if5 in
+    let the-if6 = c .before .before .before .if6 in
+    alike-four _ _ (the-if1 .left) 0 _ (the-loop .inv) (the-loop-test .taken) (the-if4 .left) (the-if5 .left) (the-if6 .left) (c .if7 .left)
 
 same-from-requires : tie.Need-same-from-requires Inv-loop μ-loop
-same-from-requires c κs = (c .before .before .before .before .before .before .if1 .left, c .before .loop .inv .high)
+same-from-requires c κs =
+    let the-if1 = c .before .before .before .before .before .before .if1 in
+    (the-if1 .left, c .before .loop .inv .high)
 
 returns-8 : tie.Need-returns-8 Inv-loop μ-loop
 returns-8 c = alike-whole _ _ _ _ (c .before .before .loop .inv) (c .same-from .ensures)

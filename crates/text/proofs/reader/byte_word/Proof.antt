@@ -17,7 +17,10 @@ add-kind : tie.Need-add-kind
 add-kind c = search needs
 
 shared-slice-read-kind : tie.Need-shared-slice-read-kind
-shared-slice-read-kind c = byte-next _ _ _ _ (c .before .before .before .before .before .pre .1 .1) (c .before .before .before .skip-fast .ensures .1) (c .before .if1 .left) (c .before .before .before .before .before .pre .2)
+shared-slice-read-kind c =
+    let start = c .before .before .before .before .before in
+    let the-skip-fast = c .before .before .before .skip-fast in
+    byte-next _ _ _ _ (start .pre .1 .1) (the-skip-fast .ensures .1) (c .before .if1 .left) (start .pre .2)
 
 kind-requires : tie.Need-kind-requires
 kind-requires c κs = search needs
@@ -32,7 +35,12 @@ add-result : tie.Need-add-result
 add-result c = search needs
 
 returns-4 : tie.Need-returns-4
-returns-4 c = λ z. byte-found _ _ _ _ _ (c .before .before .before .before .before .before .before .before .pre .1 .1) (c .before .before .before .before .before .before .skip-fast .ensures .0) (c .before .before .before .before .before .before .skip-fast .ensures .1) (c .before .before .before .before .if1 .left) (c .before .before .before .before .before .before .before .before .pre .2) (c .before .before .before .before .before .before .before .before .pre .3) (λ e. c .before .if2 .left (c .before .before .kind .ensures ∙ e)) (at-most _ _ _ (c .before .before .kind .ensures) (c .if3 .left))
+returns-4 c =
+    let start = c .before .before .before .before .before .before .before .before in
+    let the-skip-fast = c .before .before .before .before .before .before .skip-fast in
+    let the-if1 = c .before .before .before .before .if1 in
+    let the-kind = c .before .before .kind in
+    λ z. byte-found _ _ _ _ _ (start .pre .1 .1) (the-skip-fast .ensures .0) (the-skip-fast .ensures .1) (the-if1 .left) (start .pre .2) (start .pre .3) (λ e. c .before .if2 .left (the-kind .ensures ∙ e)) (at-most _ _ _ (the-kind .ensures) (c .if3 .left))
 
 pub byte-word-spec : {M : Type 1} → statement M
 byte-word-spec =

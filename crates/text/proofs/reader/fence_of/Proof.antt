@@ -1,6 +1,8 @@
 use borrow.Author.Needs.{needs}
 use Prim.Native.Nat.{_≤_}
+use mathlib.Core.Path.{sym, _∙_}
 use lib.ListN.{length}
+use borrow.Author.Tests.{not-true}
 use Rattle.text.proofs.Readers.{fenced-none}
 use Rattle.text.proofs.reader.fence_of.Statement.{statement}
 use Rattle.text.proofs.reader.fence_of.Tie as tie
@@ -20,14 +22,16 @@ sub-if1 c = search needs
 shared-slice-read-if1 : tie.Need-shared-slice-read-if1 Inv-loop μ-loop
 shared-slice-read-if1 c = search needs
 
-sub-if2 : tie.Need-sub-if2 Inv-loop μ-loop
-sub-if2 c = search needs
+sub-slash-before : tie.Need-sub-slash-before Inv-loop μ-loop
+sub-slash-before c = search needs
 
-shared-slice-read-if2 : tie.Need-shared-slice-read-if2 Inv-loop μ-loop
-shared-slice-read-if2 c = search needs
+slash-before-requires : tie.Need-slash-before-requires Inv-loop μ-loop
+slash-before-requires c κs = search needs
 
 returns : tie.Need-returns Inv-loop μ-loop
-returns c = record { high = c .before .before .before .before .before .loop .inv; last = λ h. c .before .before .if1 .taken; free = λ h. c .if2 .taken }
+returns c =
+    let the-loop = c .before .before .before .before .before .loop in
+    record { high = the-loop .inv; last = λ h. c .before .before .if1 .taken; free = λ h. sym (c .before .slash-before .ensures) ∙ not-true _ (c .if2 .taken) }
 
 sub-f : tie.Need-sub-f Inv-loop μ-loop
 sub-f c = search needs
@@ -50,8 +54,8 @@ fence-of-spec =
     loop-holds
     sub-if1
     shared-slice-read-if1
-    sub-if2
-    shared-slice-read-if2
+    sub-slash-before
+    slash-before-requires
     returns
     sub-f
     loop-less

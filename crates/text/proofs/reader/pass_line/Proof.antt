@@ -1,9 +1,9 @@
 use borrow.Author.Needs.{needs}
+use native.Mathlib.Omega.{arith}
+use mathlib.Core.Path.{sym, _∙_}
+use Rattle.text.proofs.Passing.{passed-feed}
 use Rattle.text.proofs.reader.pass_line.Statement.{statement}
 use Rattle.text.proofs.reader.pass_line.Tie as tie
-use native.Mathlib.Omega.{arith}
-use mathlib.Core.Logic.{⊎-elim}
-use Rattle.text.proofs.Passing.{passed-feed}
 
 pass-words-requires : tie.Need-pass-words-requires
 pass-words-requires c κs = search needs
@@ -14,11 +14,10 @@ returns c = search needs
 first-feed-requires : tie.Need-first-feed-requires
 first-feed-requires c κs = search needs
 
-sub-if3 : tie.Need-sub-if3
-sub-if3 c = search needs
-
-shared-slice-read-if3 : tie.Need-shared-slice-read-if3
-shared-slice-read-if3 c = search needs
+slash-before-requires : tie.Need-slash-before-requires
+slash-before-requires c κs =
+    let start = c .before .before .before in
+    omega (arith, c .first-feed .ensures .1, start .pre .fenced .high)
 
 pass-words-requires-2 : tie.Need-pass-words-requires-2
 pass-words-requires-2 c κs = search needs
@@ -26,14 +25,17 @@ pass-words-requires-2 c κs = search needs
 returns-2 : tie.Need-returns-2
 returns-2 c = search needs
 
-add-t12 : tie.Need-add-t12
-add-t12 c = search needs
+add-t9 : tie.Need-add-t9
+add-t9 c = search needs
 
-add-t13 : tie.Need-add-t13
-add-t13 c = search needs
+add-t10 : tie.Need-add-t10
+add-t10 c = search needs
 
 returns-3 : tie.Need-returns-3
-returns-3 c = passed-feed _ _ _ _ (c .before .first-feed .ensures .0) (omega (arith, c .before .first-feed .ensures .1, c .before .before .before .before .pre .fenced .high)) (c .before .before .before .before .pre .few) (⊎-elim (λ w l e. w .2 .left e) (λ w l e. omega (arith, w .left, l)) (c .if2 .came))
+returns-3 c =
+    let start = c .before .before .before .before .before in
+    let the-first-feed = c .before .before .first-feed in
+    passed-feed _ _ _ _ (the-first-feed .ensures .0) (omega (arith, the-first-feed .ensures .1, start .pre .fenced .high)) (start .pre .few) (sym (c .before .slash-before .ensures) ∙ c .if2 .left)
 
 pub pass-line-spec : {M : Type 1} → statement M
 pass-line-spec =
@@ -42,10 +44,9 @@ pass-line-spec =
     pass-words-requires
     returns
     first-feed-requires
-    sub-if3
-    shared-slice-read-if3
+    slash-before-requires
     pass-words-requires-2
     returns-2
-    add-t12
-    add-t13
+    add-t9
+    add-t10
     returns-3)

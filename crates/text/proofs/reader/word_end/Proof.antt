@@ -25,11 +25,20 @@ add-peek c = omega arith
 peek-requires : tie.Need-peek-requires Inv-loop μ-loop
 peek-requires c κs = tt
 
+add-peek-2 : tie.Need-add-peek-2 Inv-loop μ-loop
+add-peek-2 c = omega arith
+
+peek-requires-2 : tie.Need-peek-requires-2 Inv-loop μ-loop
+peek-requires-2 c κs = tt
+
 in-word-requires : tie.Need-in-word-requires Inv-loop μ-loop
 in-word-requires c κs = tt
 
 returns : tie.Need-returns Inv-loop μ-loop
-returns c = in-word-over _ _ _ (c .before .before .before .before .before .loop .inv) (c .before .before .before .before .loop-test .taken) (cc (not-true (c .before .in-word .result) (c .if1 .taken)))
+returns c =
+    let the-loop = c .before .before .before .before .before .before .loop in
+    let the-loop-test = c .before .before .before .before .before .loop-test in
+    in-word-over _ _ _ (the-loop .inv) (the-loop-test .taken) (cc (not-true (c .before .in-word .result) (c .if1 .taken)))
 
 add-i : tie.Need-add-i Inv-loop μ-loop
 add-i c = omega arith
@@ -38,7 +47,10 @@ loop-less : tie.Need-loop-less Inv-loop μ-loop
 loop-less c = omega arith
 
 loop-again : tie.Need-loop-again Inv-loop μ-loop
-loop-again c = in-word-more _ _ _ (c .before .before .before .before .before .loop .inv) (c .before .before .before .before .loop-test .taken) (cc (not-false (c .before .in-word .result) (c .if1 .left)))
+loop-again c =
+    let the-loop = c .before .before .before .before .before .before .loop in
+    let the-loop-test = c .before .before .before .before .before .loop-test in
+    in-word-more _ _ _ (the-loop .inv) (the-loop-test .taken) (cc (not-false (c .before .in-word .result) (c .if1 .left)))
 
 returns-2 : tie.Need-returns-2 Inv-loop μ-loop
 returns-2 c = in-word-end _ _ _ (c .before .loop .inv) (c .loop-test .left)
@@ -53,6 +65,8 @@ word-end-spec =
     shared-slice-read-in-word
     add-peek
     peek-requires
+    add-peek-2
+    peek-requires-2
     in-word-requires
     returns
     add-i

@@ -18,11 +18,20 @@ abbrev μ-loop : tie.MeasureT-loop
 loop-holds : tie.Need-loop-holds Inv-loop μ-loop
 loop-holds c = (omega arith, line-start (now (c .args .s)))
 
-shared-slice-read-if1 : tie.Need-shared-slice-read-if1 Inv-loop μ-loop
-shared-slice-read-if1 c = search needs
+shared-slice-read-ends-line : tie.Need-shared-slice-read-ends-line Inv-loop μ-loop
+shared-slice-read-ends-line c = search needs
+
+add-peek : tie.Need-add-peek Inv-loop μ-loop
+add-peek c = search needs
+
+peek-requires : tie.Need-peek-requires Inv-loop μ-loop
+peek-requires c κs = search needs
+
+ends-line-requires : tie.Need-ends-line-requires Inv-loop μ-loop
+ends-line-requires c κs = search needs
 
 returns : tie.Need-returns Inv-loop μ-loop
-returns c = line-here _ _ (c .before .before .before .loop .inv .1) (c .before .before .loop-test .taken) (c .if1 .taken)
+returns c = line-here _ _ (c .before .before .before .before .before .loop .inv .1) (c .before .before .before .before .loop-test .taken) (cc)
 
 add-i : tie.Need-add-i Inv-loop μ-loop
 add-i c = search needs
@@ -31,7 +40,9 @@ loop-less : tie.Need-loop-less Inv-loop μ-loop
 loop-less c = search needs
 
 loop-again : tie.Need-loop-again Inv-loop μ-loop
-loop-again c = (omega arith, line-on (now (c .before .before .before .before .args .s)) _ (c .before .before .before .loop .inv .1) (c .before .before .loop-test .taken) (c .if1 .left))
+loop-again c =
+    let start = c .before .before .before .before .before .before in
+    (omega arith, line-on (now (start .args .s)) _ (c .before .before .before .before .before .loop .inv .1) (c .before .before .before .before .loop-test .taken) (cc))
 
 returns-2 : tie.Need-returns-2 Inv-loop μ-loop
 returns-2 c = line-end _ _ (c .before .loop .inv .1) (c .loop-test .left)
@@ -43,7 +54,10 @@ line-length-spec =
     Inv-loop
     μ-loop
     loop-holds
-    shared-slice-read-if1
+    shared-slice-read-ends-line
+    add-peek
+    peek-requires
+    ends-line-requires
     returns
     add-i
     loop-less
