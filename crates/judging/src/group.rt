@@ -74,7 +74,7 @@ fn read_members(
     text: &[u8],
     table: &[usize; 1024],
     rows: &[u64; 512],
-    flags: &[bool; 256],
+    flags: &[bool; 1024],
     count: usize,
 ) -> Members
     requires { ⌜ Within (now s) (now t) fence (from .at) (from .line) × Named (now text) (now table) count ⌝ }
@@ -147,7 +147,7 @@ pub fn group_line(
     text: &[u8],
     table: &[usize; 1024],
     rows: &[u64; 512],
-    flags: &[bool; 256],
+    flags: &[bool; 1024],
     count: usize,
 ) -> GroupLine
     requires { ⌜ Table (now t) × Fenced (now s) fence × DollarWord (now s) x × Named (now text) (now table) count ⌝ }

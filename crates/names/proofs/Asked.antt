@@ -297,7 +297,7 @@ no-names s t = refl
 pub star-fresh : (s w : Text) (t : List ℕ) → anyOf (same w) (namesAt s t 0) ≡ false
 star-fresh s w t = ap (anyOf (same w)) (no-names s t) ∙ any-nil (same w)
 
-pub tables-none : (s : Text) (t rows : List ℕ) (flags : List Bool) → length t ≡ 1024 → length rows ≡ 512 → length flags ≡ 256 → Tables s t rows flags 0
+pub tables-none : (s : Text) (t rows : List ℕ) (flags : List Bool) → length t ≡ 1024 → length rows ≡ 512 → length flags ≡ 1024 → Tables s t rows flags 0
 tables-none s t rows flags a b c = record { named = named-none s t a; size = b; flagged = c }
 
 pub begun-star : (s v : Text) (t t′ rows rows′ : List ℕ) (flags flags′ : List Bool) (row : Row) → Tables s t rows flags 0 → v ≡ 42 ∷ [] →

@@ -24,20 +24,20 @@ use super::places::some_set;
 use bitsets::with;
 use profile::fields::field_end;
 
-// Empties the table and the filter, and lists `*`, which stands at `at`, with its row.
+// Empties the filter, and lists `*`, which stands at `at`, with its row.
 fn begin(
     text: &[u8],
     table: &mut [usize; 1024],
     rows: &mut [u64; 512],
-    flags: &mut [bool; 256],
+    flags: &mut [bool; 1024],
     at: usize,
     row: Row,
 )
-    requires { ⌜ (at + 1 ≤ length (now text)) × (part (now text) at (at + 1) ≡ 42 ∷ []) × (length (now rows) ≡ 512) ⌝ }
+    requires { ⌜ (at + 1 ≤ length (now text)) × (part (now text) at (at + 1) ≡ 42 ∷ []) × (length (now rows) ≡ 512)
+        × (length (now table) ≡ 1024) ⌝ }
     ensures { λ _. ⌜ Begun (valueAsks (42 ∷ []) (says row)) (now (text .entry)) (now (table .exit)) (now (rows .exit)) (now (flags .exit)) 1 ⌝ }
 {
-    *table = [0; 1024];
-    *flags = [false; 256];
+    *flags = [false; 1024];
     list_row(text, table, rows, flags, 0, at, at + 1, row);
 }
 
@@ -66,7 +66,7 @@ fn mark_values(
     bounds: &[usize; 130],
     table: &mut [usize; 1024],
     rows: &mut [u64; 512],
-    flags: &mut [bool; 256],
+    flags: &mut [bool; 1024],
     count: usize,
 ) -> usize
     requires { ⌜ Placed (now text) (now bounds) × Tables (now text) (now table) (now rows) (now flags) count × (count + mostValues ≤ mostNames) ⌝ }
@@ -91,7 +91,7 @@ fn mark_options(
     base: usize,
     table: &mut [usize; 1024],
     rows: &mut [u64; 512],
-    flags: &mut [bool; 256],
+    flags: &mut [bool; 1024],
     count: usize,
 ) -> usize
     requires { ⌜ Lies (now text) base (now options) × Tables (now text) (now table) (now rows) (now flags) count
@@ -121,13 +121,14 @@ fn mark_profile(
     bounds: &[usize; 130],
     table: &mut [usize; 1024],
     rows: &mut [u64; 512],
-    flags: &mut [bool; 256],
+    flags: &mut [bool; 1024],
 ) -> usize
     requires { ⌜ Placed (now text) (now bounds)
         × Lies (now text) base (now options)
         × Lies (now text) (base + length (now options)) (42 ∷ [])
         × (length (optionsOf (now options)) ≤ mostOptions)
-        × (length (now rows) ≡ 512) ⌝ }
+        × (length (now rows) ≡ 512)
+        × (length (now table) ≡ 1024) ⌝ }
     ensures { λ r. ⌜ Begun (profileAsks (now (text .entry)) (now (bounds .entry)) (optionsOf (now (options .entry)))) (now (text .entry)) (now (table .exit))
         (now (rows .exit)) (now (flags .exit)) r × (r ≤ 130) ⌝ }
 {
@@ -148,13 +149,14 @@ pub fn compile(
     text: &mut [u8],
     table: &mut [usize; 1024],
     rows: &mut [u64; 512],
-    flags: &mut [bool; 256],
+    flags: &mut [bool; 1024],
     bounds: &mut [usize; 130],
 ) -> Held
     requires { ⌜ (profileRefusals (textsOf (now model) (now layouts) (now variants) (now options)) ≡ [])
         × (length (now text) ≡ textSize)
         × (length (now rows) ≡ 512)
-        × (length (now bounds) ≡ 130) ⌝ }
+        × (length (now bounds) ≡ 130)
+        × (length (now table) ≡ 1024) ⌝ }
     ensures { λ r. ⌜ CompiledProfile (textsOf (now (model .entry)) (now (layouts .entry)) (now (variants .entry)) (now (options .entry)))
         (now (text .exit)) (now (table .exit)) (now (rows .exit)) (now (flags .exit)) (now (bounds .exit)) r ⌝ }
 {

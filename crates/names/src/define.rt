@@ -20,7 +20,7 @@ pub fn define_group(
     used: usize,
     table: &mut [usize; 1024],
     rows: &mut [u64; 512],
-    flags: &mut [bool; 256],
+    flags: &mut [bool; 1024],
     count: usize,
     groups: usize,
 ) -> GroupDefined

@@ -79,7 +79,7 @@ fn read_group(
     text: &mut [u8],
     table: &mut [usize; 1024],
     rows: &mut [u64; 512],
-    flags: &mut [bool; 256],
+    flags: &mut [bool; 1024],
 ) -> Reading
     requires { ⌜ Table (now t) × Fenced (now s) (z .fence) × DollarWord (now s) x × AtGroup (now s) r x
         × NamesHeld (now text) (now table) (now rows) (now flags) r ⌝ }
@@ -135,7 +135,7 @@ pub fn read_heading(
     text: &mut [u8],
     table: &mut [usize; 1024],
     rows: &mut [u64; 512],
-    flags: &mut [bool; 256],
+    flags: &mut [bool; 1024],
 ) -> Reading
     requires { ⌜ Within (now s) (now t) (z .fence) from number × AtHeading (now s) r from number × (1 ≤ z .n) × (z .n ≤ 32)
         × NamesHeld (now text) (now table) (now rows) (now flags) r ⌝ }

@@ -52,7 +52,7 @@ pub fn left_word(
     text: &[u8],
     table: &[usize; 1024],
     rows: &[u64; 512],
-    flags: &[bool; 256],
+    flags: &[bool; 1024],
     count: usize,
 ) -> LeftWords
     requires { ⌜ Within (now s) (now t) fence (x .at) (x .line) × Named (now text) (now table) count ⌝ }

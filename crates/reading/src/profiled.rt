@@ -31,7 +31,7 @@ pub fn read_for(
     let mut text: [u8; 20608] = [0; 20608];
     let mut table: [usize; 1024] = [0; 1024];
     let mut rows: [u64; 512] = [0; 512];
-    let mut flags: [bool; 256] = [false; 256];
+    let mut flags: [bool; 1024] = [false; 1024];
     let mut bounds: [usize; 130] = [0; 130];
     let held = compile(
         model,

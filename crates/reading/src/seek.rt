@@ -25,7 +25,7 @@ pub fn seek_rule(
     text: &[u8],
     table: &[usize; 1024],
     rows: &[u64; 512],
-    flags: &[bool; 256],
+    flags: &[bool; 1024],
     count: usize,
 ) -> Sought
     requires { ⌜ Within (now s) (now t) fence at line

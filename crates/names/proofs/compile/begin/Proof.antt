@@ -1,5 +1,4 @@
 use native.Mathlib.Omega.{arith}
-use Prim.Native.Nat.{ℕ}
 use mathlib.Core.Bool.{Bool, false}
 use lib.ListN.{length-replicate}
 use Rattle.names.proofs.Asked.{tables-none, star-fresh, begun-star}
@@ -11,10 +10,14 @@ add-list-row : tie.Need-add-list-row
 add-list-row c = search needs
 
 list-row-requires : tie.Need-list-row-requires
-list-row-requires c κs = (tables-none _ _ _ _ (length-replicate {A = ℕ} 1024 0) (c .before .before .before .before .before .before .pre .2) (length-replicate {A = Bool} 256 false), omega arith, c .before .before .before .before .before .before .pre .0, omega arith, star-fresh _ _ _)
+list-row-requires c κs =
+    let start = c .before .before .before .before .before in
+    (tables-none _ _ _ _ (start .pre .3) (start .pre .2) (length-replicate {A = Bool} 1024 false), omega arith, start .pre .0, omega arith, star-fresh _ _ _)
 
 returns : tie.Need-returns
-returns c = begun-star _ _ _ _ _ _ _ _ _ (tables-none _ _ _ _ (length-replicate {A = ℕ} 1024 0) (c .before .before .before .before .before .before .before .pre .2) (length-replicate {A = Bool} 256 false)) (c .before .before .before .before .before .before .before .pre .1) (c .list-row .ensures)
+returns c =
+    let start = c .before .before .before .before .before .before in
+    begun-star _ _ _ _ _ _ _ _ _ (tables-none _ _ _ _ (start .pre .3) (start .pre .2) (length-replicate {A = Bool} 1024 false)) (start .pre .1) (c .list-row .ensures)
 
 pub begin-spec : {M : Type 1} → statement M
 begin-spec =

@@ -43,7 +43,7 @@ mark-profile-requires c κs =
     let start = c .before .before .before .before .before .before .before .before .before .before .before .before .before .before .before .before .before in
     let the-copy-texts = c .before .before .before .before .before .before .before .before .before .before .copy-texts in
     let the-place-values = c .before .before .before .before .before .before .place-values in
-    let p = start .pre in let v = the-copy-texts .ensures in (all-placed _ (p .0) _ _ _ v _ (the-place-values .ensures), options-lie _ (p .0) _ _ _ v, star-lies _ (p .0) _ _ _ v, few-options _ (p .0), p .2)
+    let p = start .pre in let v = the-copy-texts .ensures in (all-placed _ (p .0) _ _ _ v _ (the-place-values .ensures), options-lie _ (p .0) _ _ _ v, star-lies _ (p .0) _ _ _ v, few-options _ (p .0), p .2, p .4)
 
 same-length : tie.Need-same-length
 same-length c =

@@ -20,7 +20,7 @@ add-begin c =
 begin-requires : tie.Need-begin-requires
 begin-requires c κs =
     let start = c .before .before .before .before .before .before .before in
-    (start .pre .2 .high, lies-one _ _ _ (start .pre .2), start .pre .4)
+    (start .pre .2 .high, lies-one _ _ _ (start .pre .2), start .pre .4, start .pre .5)
 
 mark-values-requires : tie.Need-mark-values-requires
 mark-values-requires c κs =
