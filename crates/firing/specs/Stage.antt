@@ -12,10 +12,10 @@ use Rattle.answers.specs.Answer.{tenTexts, answer, outcome}
 use Rattle.firing.specs.Writing.{starts}
 
 abbrev pub regionSize : ℕ
-regionSize = 1024
+regionSize = 512
 
 abbrev pub stageSize : ℕ
-stageSize = 10240
+stageSize = 5120
 
 -- where the ten regions start
 unfoldable pub regions : List ℕ

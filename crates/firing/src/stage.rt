@@ -9,7 +9,7 @@ use output::copy;
 use output::wide;
 
 // Where the regions start, each of 1,024 bytes.
-pub const REGIONS: [u32; 10] = [0, 1024, 2048, 3072, 4096, 5120, 6144, 7168, 8192, 9216];
+pub const REGIONS: [u32; 10] = [0, 512, 1024, 1536, 2048, 2560, 3072, 3584, 4096, 4608];
 
 // The lengths of ten texts that go from these starts to these ends.
 pub fn lengths_between(starts: [u32; 10], ends: [u32; 10]) -> [u32; 10]
@@ -31,7 +31,7 @@ pub fn in_regions(lengths: [u32; 10]) -> bool
 {
     let mut i: usize = 0;
     while i < 10 {
-        if 1024 < lengths[i] {
+        if 512 < lengths[i] {
             return false;
         }
         i += 1;
@@ -50,7 +50,7 @@ pub fn copy_texts(stage: &[u8], lengths: [u32; 10], buf: &mut [u8])
     while i < 10 {
         let n = wide(lengths[i]);
         copy(stage, start, start + n, buf, at);
-        start += 1024;
+        start += 512;
         at += n;
         i += 1;
     }

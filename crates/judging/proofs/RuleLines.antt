@@ -12,10 +12,11 @@ use Rattle.text.specs.Bytes.{Text, Words}
 use Rattle.text.specs.Marks.{marks}
 use Rattle.text.specs.Lines.{linesOf}
 use Rattle.text.specs.Words.{wordsFault}
-use Rattle.text.specs.Reading.{left, ahead, follow, NoWord, Opens}
+use Rattle.text.specs.Reading.{left, ahead, follow, kindOf, Fenced, Skipped, NoWord, Opens}
 use Rattle.text.proofs.Joined.{shifted, linesOf-shift}
 use Rattle.text.proofs.Feeds.{FeedAt}
-use Rattle.text.proofs.Readers.{lineAt, line-first, blanks-start, between-skip, between-over}
+use Rattle.text.proofs.Readers.{lineAt, line-first, blanks-start, between-skip, between-over, opened-skip, opened-same, fence-in}
+use Rattle.text.proofs.ByteKinds.{not-bad, kind-zero}
 use Rattle.rules.specs.declared.Present.{Present}
 use Rattle.rules.specs.declared.Split.{Split}
 use Rattle.rules.specs.Entries.{entryOf}
@@ -26,7 +27,19 @@ use Rattle.rules.proofs.PlainLines.{passes-rule, passes-none}
 use Rattle.rules.proofs.LineKinds.{line-wrong, line-ignored, line-rule}
 use Rattle.rules.proofs.CheckSteps.{refused-first, check-cons, entry-any}
 use Rattle.judging.specs.declared.Judged.{Judged}
-use Rattle.judging.specs.Lines.{RestRead, WordsJudged, RuleLineRead, LineRefused}
+use Rattle.judging.specs.Lines.{RestRead, PlainStart, WordsJudged, RuleLineRead, LineRefused}
+
+-- a line that begins with a plain byte
+pub opens-plain : (s : Text) (f at i : ℕ) → Fenced s f → Skipped s at i → i < f → (getD s i 0 ≡ 33 → ⊥) → kindOf (getD s i 0) ≡ 0 → PlainStart s f at i
+opens-plain s f at i g k l x z =
+    record {
+      opens = λ h n y.
+          opened-same s at n i n (opened-skip s at n i y (k .blanks)) (fence-in s f i g l)
+          (record { blank = k .stop (fence-in s f i g l); bang = x; joins = λ e. absurd (not-bad (getD s i 0) (kind-zero (getD s i 0) 0 0 z .1) .slash e) });
+    }
+
+pub opens-nothing : (s : Text) (f at : ℕ) → PlainStart s f at f
+opens-nothing s f at = record { opens = λ h. absurd (omega arith) }
 
 -- the rest of a line at one go
 

@@ -22,6 +22,10 @@ pub record RestRead (s : Text) (from : ℕ) (p : Present) (e : ℕ) : Type 0 whe
   pub onto : (m : ℕ) → m ≤ from + 1 → ahead s from m ≡ follow s e (m + 1)
   pub passes : (n : ℕ) → Passes p (entryOf (lineOf n false (left s from)))
 
+-- a line begins with a plain byte at r, before the fence f
+pub record PlainStart (s : Text) (f at r : ℕ) : Type 0 where
+  pub opens : r < f → (n : ℕ) → n ≤ at + 1 → Opens s at n false r n
+
 -- the rest of any line that is no heading, from the physical line m on: its refusal, or 0
 pub record WordsJudged (s : Text) (from m : ℕ) (p : Present) (r : Judged) : Type 0 where
   pub fault : (ns : List Text) → r .fault ≡ lineFault ns p (entryOf (lineOf 0 false (left s from)))

@@ -5,11 +5,11 @@ ghost use mathlib.Core.Bool.{false};
 ghost use Prim.Native.Nat.{_≤_, _<_};
 ghost use lib.ListN.{length};
 ghost use Rattle.text.specs.Bytes.{Text};
-ghost use Rattle.text.specs.Reading.{Table, Fenced, Within};
+ghost use Rattle.text.specs.Reading.{Table, Fenced, Within, Opens};
 ghost use Rattle.rules.specs.Splitting.{wordsOf, IsSplit};
 ghost use Rattle.rules.specs.Entries.{entryOf};
 ghost use Rattle.rules.specs.Checking.{lineOf, lineFault};
-ghost use Rattle.judging.specs.Lines.{RestRead, WordsJudged, RuleLineOf};
+ghost use Rattle.judging.specs.Lines.{RestRead, PlainStart, WordsJudged, RuleLineOf};
 use super::Judged;
 use super::RuleLine;
 use rules::Present;
@@ -18,9 +18,11 @@ use rules::lines::fence_behind;
 use rules::judge::rule_fault;
 use rules::lines::split_line;
 use rules::plain::rule_end;
+use text::Opening;
 use text::bytes::kind;
 use text::reader::feed_end;
 use text::reader::open_line;
+use text::reader::skip_fast;
 
 // The rest of a line at one go, from its first byte that is no blank: where the next line starts, or 0, which says nothing.
 fn rest_end(s: &[u8], t: &[u8; 512], fence: usize, from: usize, p: Present) -> usize
@@ -78,6 +80,41 @@ fn judge_words(
     }
 }
 
+// Where the words of a line begin, if the first of its bytes that is no blank is a plain one; else the fence, which says nothing.
+fn plain_start(s: &[u8], t: &[u8; 512], fence: usize, at: usize) -> usize
+    requires { ⌜ Table (now t) × Fenced (now s) fence ⌝ }
+    ensures { λ r. ⌜ PlainStart (now (s .entry)) fence at r ⌝ }
+{
+    if fence <= at {
+        return fence;
+    }
+    let i = skip_fast(s, t, fence, at);
+    let b = s[i];
+    if b == b'!' {
+        return fence;
+    }
+    if kind(t, b) != 0 {
+        return fence;
+    }
+    i
+}
+
+// A line opened, at one go where it begins with a plain byte before the fence.
+fn open_plain(s: &[u8], t: &[u8; 512], fence: usize, at: usize, line: usize) -> Opening
+    requires { ⌜ Within (now s) (now t) fence at line ⌝ }
+    ensures { λ r. ⌜ Opens (now (s .entry)) at line (r .heading) (r .at) (r .line) ⌝ }
+{
+    let i = plain_start(s, t, fence, at);
+    if i < fence {
+        return Opening {
+            heading: false,
+            at: i,
+            line,
+        };
+    }
+    open_line(s, t, at, line)
+}
+
 // The line that starts at `at` and has the number `line`, under the heading p.
 pub fn rule_line(
     s: &[u8],
@@ -90,7 +127,7 @@ pub fn rule_line(
     requires { ⌜ Within (now s) (now t) fence at line × (at < length (now s)) × (p .left ≤ 4) × (p .right ≤ 5) ⌝ }
     ensures { λ r. ⌜ RuleLineOf (now (s .entry)) at line p r ⌝ }
 {
-    let o = open_line(s, t, at, line);
+    let o = open_plain(s, t, fence, at, line);
     let from = o.at;
     let number = o.line;
     if o.heading {

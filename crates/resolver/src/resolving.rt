@@ -98,7 +98,7 @@ pub fn measure(
     ensures { λ r. ⌜ r ≡ outcome (answer room (now (s .entry))
         (textsOf (now (model .entry)) (now (layouts .entry)) (now (variants .entry)) (now (options .entry)))) ⌝ }
 {
-    let mut stage: [u8; 10240] = [0; 10240];
+    let mut stage: [u8; 5120] = [0; 5120];
     staged(s, model, layouts, variants, options, room, &mut stage)
 }
 
@@ -114,7 +114,7 @@ pub fn resolve(
     ensures { λ r. ⌜ Resolved (now (s .entry)) (textsOf (now (model .entry)) (now (layouts .entry)) (now (variants .entry)) (now (options .entry)))
         (now (buf .entry)) (now (buf .exit)) r ⌝ }
 {
-    let mut stage: [u8; 10240] = [0; 10240];
+    let mut stage: [u8; 5120] = [0; 5120];
     let a = staged(
         s,
         model,

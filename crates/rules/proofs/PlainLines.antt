@@ -9,11 +9,10 @@ use lib.Dec.{eqb}
 use borrow.Author.Tests.{eq-eqb, ne-eqb, eqb-true, eqb-false, not-true}
 use Rattle.text.specs.Bytes.{Text, Words, same, allOf, anyOf, part}
 use Rattle.text.specs.Words.{wordsFault}
-use Rattle.text.specs.Reading.{left, ahead, follow, faultOf, kindOf, Fenced, Blanks, Skipped, PlainFound, ByteWord, NoWord, Opens}
+use Rattle.text.specs.Reading.{left, ahead, faultOf, Blanks, PlainFound, ByteWord, NoWord}
 use Rattle.text.proofs.Lists.{no, and-both}
-use Rattle.text.proofs.ByteKinds.{not-bad, kind-zero}
-use Rattle.text.proofs.Feeds.{FeedAt, feed-slash}
-use Rattle.text.proofs.Readers.{lineAt, line-first, fault-cons, fault-nil, lower-zero, blanks-start, between-skip, between-over, opened-skip, opened-same, fence-in}
+use Rattle.text.proofs.Feeds.{FeedAt}
+use Rattle.text.proofs.Readers.{fault-cons, fault-nil, lower-zero, between-skip, between-over}
 use Rattle.rules.specs.declared.Present.{Present}
 use Rattle.rules.specs.Words.{isEquals, ordinary, leftWord}
 use Rattle.rules.specs.Percent.{pieces, badPiece, malformed}
@@ -21,7 +20,7 @@ use Rattle.rules.specs.Entries.{ignored, rule, ruleEntry, entryOf}
 use Rattle.rules.specs.Faults.{ruleShape, shapeFault}
 use Rattle.rules.specs.Checking.{lineOf, presentFault, lineFault, presentAfter, namesAfter}
 use Rattle.rules.proofs.Pieces.{pieces-byte}
-use Rattle.rules.specs.Plain.{goodRight, goodLeft, LeftRead, RightWord, RightRead, RuleRead, Passes, LineRead}
+use Rattle.rules.specs.Plain.{goodRight, goodLeft, LeftRead, RightWord, RightRead, RuleRead, Passes}
 
 right-cons : (i : Bool) (j r : ℕ) (w : Text) (ws : Words) → j ≡ suc r → faultOf w ≡ 0 → ordinary w ≡ true → malformed i w ≡ false → goodRight i j (w ∷ ws) ≡ goodRight i r ws
 unfolding goodRight
@@ -222,26 +221,3 @@ passes-rule p ws n z h =
 pub passes-none : (p : Present) (n : ℕ) → Passes p (entryOf (lineOf n false []))
 unfolding lineFault namesAfter presentAfter
 passes-none p n = rw (no-entry n) (record { fault = λ ns. refl; names = λ ns. refl; present = refl })
-
--- the line that is read, where its first byte that is no blank is no `!` and no backslash
-opens-read : (s : Text) (from n i : ℕ) → from < length s → Opens s from n false i n → follow s from n ≡ lineOf n false (left s i) ∷ ahead s i n
-unfolding follow lineAt
-opens-read s from n i h o = rw (line-first s n from h, o .mark, o .text, o .onto)
-
-module _ (s : Text) (f from i : ℕ) (p : Present) (g : Fenced s f) (h : from < f) (k : Skipped s from i) (l : i < f) where
-  opens-at : (n : ℕ) → n ≤ from + 1 → (getD s i 0 ≡ 33 → ⊥) → (getD s i 0 ≡ 92 → ⊥) → Opens s from n false i n
-  opens-at n y x z =
-      opened-same s from n i n (opened-skip s from n i y (k .blanks)) (fence-in s f i g l)
-      (record { blank = k .stop (fence-in s f i g l); bang = x; joins = λ e. absurd (z e) })
-
-  pub line-rule : (e : ℕ) → (getD s i 0 ≡ 33 → ⊥) → kindOf (getD s i 0) ≡ 0 → (p .form ≡ 0 → ⊥) → RuleRead s i p e → LineRead s from p e
-  line-rule e x z q r =
-      record {
-        low = omega (arith, k .blanks .low, r .low);
-        high = r .high;
-        words = left s i;
-        read = λ n y.
-            opens-read s from n i (omega (arith, g .high)) (opens-at n y x (not-bad (getD s i 0) (kind-zero (getD s i 0) 0 0 z .1) .slash))
-            ∙ rw (r .onto n (omega (arith, y, k .blanks .low))) refl;
-        passes = λ n. passes-rule p (left s i) n q (r .good);
-      }

@@ -10,8 +10,8 @@ use Rattle.text.specs.Reading.{left, ahead, follow, faultOf, PlainFound}
 use Rattle.rules.specs.declared.Present.{Present}
 use Rattle.rules.specs.Words.{isEquals, ordinary, leftWord}
 use Rattle.rules.specs.Percent.{malformed}
-use Rattle.rules.specs.Entries.{Entry, entryOf}
-use Rattle.rules.specs.Checking.{lineOf, lineFault, presentAfter, namesAfter}
+use Rattle.rules.specs.Entries.{Entry}
+use Rattle.rules.specs.Checking.{lineFault, presentAfter, namesAfter}
 
 -- nothing is refused of a rule's words: r right words are left; l left words, `=` and r right words are left
 unfoldable pub goodRight : Bool → ℕ → Words → Bool
@@ -59,11 +59,3 @@ pub record Passes (p : Present) (e : Entry) : Type 0 where
   pub fault : (ns : List Text) → lineFault ns p e ≡ 0
   pub names : (ns : List Text) → namesAfter ns e ≡ ns
   pub present : presentAfter p e ≡ p
-
--- such a line, from its start on: the next line starts at e
-pub record LineRead (s : Text) (from : ℕ) (p : Present) (e : ℕ) : Type 0 where
-  pub low : from < e
-  pub high : e ≤ length s
-  pub words : Words
-  pub read : (n : ℕ) → n ≤ from + 1 → follow s from n ≡ lineOf n false words ∷ follow s e (n + 1)
-  pub passes : (n : ℕ) → Passes p (entryOf (lineOf n false words))

@@ -302,7 +302,7 @@ fn additions(component: &str, length: usize) -> String {
     rules
 }
 
-/// Texts around 1,024 bytes, and around its multiples: a resolve keeps texts up to
+/// Texts around 512 bytes, and around its multiples: a resolve keeps texts up to
 /// this length in a region of their own until their lengths are known.
 fn long_texts(list: &mut Vec<Case>) {
     let model = "m".repeat(64);
@@ -310,7 +310,7 @@ fn long_texts(list: &mut Vec<Case>) {
     let more = "! option = keycodes types compat symbols geometry\n* = +k |t +c |s +g\n";
     for component in ["keycodes", "types", "compat", "symbols", "geometry"] {
         for length in [
-            1, 1022, 1023, 1024, 1025, 1026, 2047, 2048, 2049, 8192, 10_239, 10_240, 10_241, 20_000,
+            1, 510, 511, 512, 513, 514, 1023, 1024, 1025, 2048, 4608, 5119, 5120, 5121, 10_240, 20_000,
         ] {
             let added = additions(component, length);
             let base = format!(
@@ -325,7 +325,7 @@ fn long_texts(list: &mut Vec<Case>) {
                 format!("{short}{added}{more}"),
                 format!("{base}{short}"),
                 format!("{base}{added}{more}"),
-                format!("{}{}", added, additions("symbols", 1024)),
+                format!("{}{}", added, additions("symbols", 512)),
             ] {
                 let total = Case::text(&rules, [&model, "us", "", ""], TOTAL)
                     .second()
