@@ -24,7 +24,7 @@ static int failed(const char *about)
 
 static int server(char **argv)
 {
-    static uint8_t rules[65536 + 1]; /* one more than may be, so that a longer file is refused and not cut */
+    static uint8_t rules[XKBRULES_MOST_FILE + 1]; /* one more than may be, so that a longer file is refused and not cut */
     static uint8_t texts[XKBRULES_ROOM], card[XKBRULES_MOST_CARD];
     uint8_t sheet[XKBRULES_SHEET];
     const uint8_t *in[4];

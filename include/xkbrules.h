@@ -8,13 +8,24 @@
    The functions keep no state between calls, allocate nothing and lock nothing, so any number of threads may call them at once, each with its own
    slices to write to. They always return. They use about 32 KiB of stack.
 
+   "Accepted" says that the file and the profile are well formed and that the strings are theirs. It does not say that a
+   keyboard will work:
+   - An empty layouts text is one empty layout, which no rule for a layout matches: the strings then name no layout. Empty
+     strings are accepted too.
+   - Defaults are the caller's. Nothing is put in for an empty text; libxkbcommon takes pc105 for an empty model and us for
+     empty layouts.
+   - Whether the files exist that a string names, and whether they compile, is known when the keymap is compiled.
+   The strings may hold any byte from 0x21 to 0x7E that the profile holds, quotes too: don't print them between the quotes
+   of a keymap text; xkbrules-keymap.h does that.
+
    An example:
 
        uint8_t texts[XKBRULES_ROOM], sheet[XKBRULES_SHEET];
        uint64_t answer = xkbrules_resolve(rules, rules_len, (const uint8_t *)"pc105", 5, (const uint8_t *)"us,fr", 5, NULL, 0, NULL, 0,
                                           texts, sizeof texts, sheet, sizeof sheet);
        if (xkbrules_number(answer) != XKBRULES_ACCEPTED) {
-           printf("refused %u at %llu\n", xkbrules_number(answer), (unsigned long long)xkbrules_place(answer));
+           printf("refused %u at %llu: %s\n", xkbrules_number(answer), (unsigned long long)xkbrules_place(answer),
+                  xkbrules_message(xkbrules_number(answer)));
        } else {
            uint64_t c = xkbrules_component(texts, sizeof texts, sheet, sizeof sheet, XKBRULES_SYMBOLS);
            printf("%.*s\n", (int)xkbrules_length(c), (const char *)texts + xkbrules_start(c));
@@ -66,6 +77,18 @@ enum {
     XKBRULES_SHEET = 40,
     XKBRULES_ROOM = 65536,
     XKBRULES_MOST_ROOM = 1048576
+};
+
+/* Limits. A caller that reads a rules file makes room for one byte more than XKBRULES_MOST_FILE, so that a longer file is
+   refused and not cut. */
+enum {
+    XKBRULES_MOST_FILE = 65536,   /* bytes of a rules file */
+    XKBRULES_MOST_WORD = 256,     /* bytes of a word in it */
+    XKBRULES_MOST_GROUPS = 64,    /* groups that it defines */
+    XKBRULES_MOST_TEXT = 1024,    /* bytes of each text of a profile */
+    XKBRULES_MOST_FIELD = 64,     /* bytes of the model, a layout, a variant or an option */
+    XKBRULES_MOST_LAYOUTS = 4,
+    XKBRULES_MOST_OPTIONS = 64
 };
 
 /* Sizes for cards. No card is longer than the first: 28 bytes are its lengths, then come four texts of at most 1,024 bytes and ten of at most 65,535. The
@@ -151,6 +174,34 @@ static inline unsigned xkbrules_number(uint64_t answer)
 static inline uint64_t xkbrules_place(uint64_t answer)
 {
     return answer & UINT64_C(0xFFFFFFFFFFFF);
+}
+
+/* What a number says, in a line of ASCII without a full stop; of a number that this version doesn't know, that it doesn't.
+   Never NULL. */
+static inline const char *xkbrules_message(unsigned number)
+{
+    switch (number) {
+    case XKBRULES_ACCEPTED: return "accepted";
+    case XKBRULES_BAD_TEXT: return "text over 1,024 bytes, field over 64 bytes, or a byte that isn't 0x21 to 0x7E";
+    case XKBRULES_TOO_MANY: return "over 4 layouts, more variants than layouts, or over 64 options";
+    case XKBRULES_LONG_FILE: return "file too long: over 65,536 bytes";
+    case XKBRULES_BAD_BYTE: return "outside a comment: a byte that has no place in rules, or a backslash not at the line's end";
+    case XKBRULES_LONG_WORD: return "word too long: over 256 bytes";
+    case XKBRULES_BAD_LINE: return "no heading, group line or rule, or a rule that doesn't fit its heading";
+    case XKBRULES_BAD_HEADING: return "set heading with an item unknown, on the wrong side or repeated, or with bad or unlike indexes";
+    case XKBRULES_BAD_PERCENT: return "malformed percent item";
+    case XKBRULES_INCLUDE: return "include line: the included rules have to be written out";
+    case XKBRULES_BAD_GROUP: return "group defined twice, or a 65th";
+    case XKBRULES_NO_ROOM: return "strings longer than their buffer or than 1,048,576 bytes, or a sheet that is too short";
+    case XKBRULES_BROKEN_CARD: return "broken card: cut short, or with bytes left over, or with a profile beyond the limits";
+    default: return "not a known refusal";
+    }
+}
+
+/* The version that a program was built with, for its output: that of this header, and of the library installed with it. */
+static inline const char *xkbrules_version(void)
+{
+    return XKBRULES_VERSION;
 }
 
 /* The start of a component that xkbrules_component gave. */

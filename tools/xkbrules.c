@@ -1,65 +1,27 @@
-/* xkbrules: a command for people who write rules files. `check` shows the first bad line of a file, `resolve` what a profile becomes under it; `card` writes
-   that as a desk's card, and `show-card` shows what a card holds.
+/* xkbrules: a command for people who write rules files. `check` shows the bad lines of files, `resolve` what a
+   profile becomes under a file; `card` writes that as a desk's card, and `show-card` shows what a card holds.
 
-   Every refusal, with its number and place, and every string comes from libxkbrules.a; nothing here decides about a rule, a profile or a card.
-
-   What is shown of a file, a file's name or the command's own words goes through put_safe, so that no byte of it reaches a terminal as a command. */
+   Every refusal, with its number and place, and every string comes from libxkbrules.a; nothing here decides about
+   a rule, a profile or a card. tool.h tells the parts. */
 #include <errno.h>
-#include <stdio.h>
 #include <stdlib.h>
 #include <string.h>
 
-#include "xkbrules.h"
+#include "tool.h"
+#include "xkbrules-keymap.h"
 
-/* Exit statuses. */
-enum { GOOD = 0, REFUSED = 1, FAILED = 2 };
+enum { USUAL_LIMIT = 20 }; /* faults that are shown of a file */
 
-enum {
-    MOST_RULES = 65536,
-    MOST_SHOWN = 320 /* of a line or a text; a word that is too long by one byte is still seen whole */
-};
-
-/* The refusals by document 01's numbers. */
-static const char *const refusals[] = {
-    [XKBRULES_BAD_TEXT] = "text over 1,024 bytes, field over 64 bytes, or a byte that isn't 0x21 to 0x7E",
-    [XKBRULES_TOO_MANY] = "over 4 layouts, more variants than layouts, or over 64 options",
-    [XKBRULES_LONG_FILE] = "file too long: over 65,536 bytes",
-    [XKBRULES_BAD_BYTE] = "outside a comment: a byte other than blank, LF, 0x21 to 0x7E, or a backslash not before LF",
-    [XKBRULES_LONG_WORD] = "word too long: over 256 bytes",
-    [XKBRULES_BAD_LINE] = "rule before any set heading, or after a group line with no new heading; rule with a wrong word, word count or '='; "
-                          "heading that begins with a '$' word and is no group line, or isn't one or more words, one '=', one or more words",
-    [XKBRULES_BAD_HEADING] = "set heading with an item unknown, on the wrong side or repeated, or with bad or unlike indexes",
-    [XKBRULES_BAD_PERCENT] = "malformed percent item",
-    [XKBRULES_INCLUDE] = "include line: the included rules have to be written out",
-    [XKBRULES_BAD_GROUP] = "group defined twice, or a 65th",
-    [XKBRULES_NO_ROOM] = "strings longer than 1,048,576 bytes in all",
-    [XKBRULES_BROKEN_CARD] = "broken card: cut short, or with bytes left over, or with a profile beyond the limits"
-};
-
-/* The four texts in the library's order, which is that of its places from 1 on: what each is called, and its option. The name is taken as an option too,
-   since xkbcli has --options where setxkbmap has -option. */
-enum { MODEL, LAYOUTS, VARIANTS, OPTIONS, TEXTS };
-
-static const struct {
-    const char *name, *option;
-    char letter;
-} texts[TEXTS] = {
-    {"model", "model", 'm'},
-    {"layouts", "layout", 'l'},
-    {"variants", "variant", 'v'},
-    {"options", "option", 'o'}
-};
-
-static const char *const components[] = {"keycodes", "types", "compat", "symbols", "geometry"};
+static const char letters[TEXTS] = {'m', 'l', 'v', 'o'};
 
 static const char help[] =
-    "usage: xkbrules check FILE\n"
-    "       xkbrules resolve FILE [-m MODEL] [-l LAYOUTS] [-v VARIANTS] [-o OPTIONS] [--keymap]\n"
+    "usage: xkbrules check [--all | --limit N] [--json] FILE...\n"
+    "       xkbrules resolve FILE [-m MODEL] [-l LAYOUTS] [-v VARIANTS] [-o OPTIONS] [--keymap | --json]\n"
     "       xkbrules card FILE [-m MODEL] [-l LAYOUTS] [-v VARIANTS] [-o OPTIONS] > CARD\n"
     "       xkbrules show-card CARD\n"
     "\n"
-    "check      shows the first bad line of an XKB rules file, and why it is refused\n"
-    "resolve    prints the five component strings that a profile becomes under it\n"
+    "check      shows the bad lines of XKB rules files, where in the line, and why they are refused\n"
+    "resolve    prints the five component strings that a profile becomes under a file\n"
     "card       writes the profile and its strings as a card, for a desk to read\n"
     "show-card  prints the profile and the strings of a card\n"
     "\n"
@@ -70,13 +32,17 @@ static const char help[] =
     "  -v, --variant VARIANTS  a variant for each layout, with commas between\n"
     "  -o, --option OPTIONS    options with commas between; may be repeated, which adds more\n"
     "      --keymap            print the strings as a keymap, for xkbcomp or xkbcli\n"
+    "      --json              print the bad lines, or the strings, as JSON on standard output\n"
+    "      --limit N           show at most N bad lines of a file; 20 if not given\n"
+    "      --all               show all of them\n"
     "  -h, --help              print this\n"
     "  -V, --version           print the version\n"
     "\n"
-    "Exit status: 0 good, 1 refused, 2 misused, or the rules are over 65,536 bytes or unreadable.\n"
+    "Exit status: 0 good, 1 refused, 2 misused, or a file is over 65,536 bytes or unreadable.\n"
     "\n"
     "Examples:\n"
     "  xkbrules check house.rules\n"
+    "  xkbrules check --json --all rules/* > faults.json\n"
     "  xkbrules resolve house.rules -m pc105 -l us,fr -v ,bepo -o ctrl:nocaps,compose:menu\n"
     "  xkbrules resolve /usr/share/X11/xkb/rules/evdev -m pc105 -l de --keymap | xkbcomp -xkm - de.xkm\n"
     "  xkbrules card house.rules -m pc105 -l us,fr > desk.card\n"
@@ -84,52 +50,31 @@ static const char help[] =
 
 /* What the command line asks for. */
 typedef struct {
-    const char *command, *file;
+    const char *command;
+    const char **files;
+    size_t count;
     const char *show; /* help or version, and nothing else is done */
     const char *texts[TEXTS];
     char *options; /* those of every -o; texts[OPTIONS] points to it */
-    int keymap;
+    size_t limit;  /* 0 if not given */
+    int all, keymap, json;
 } request;
 
-static uint8_t rules[MOST_RULES + 1]; /* one more than may be, so that the library sees a longer file as such */
-static size_t rules_len;
-static uint8_t strings[XKBRULES_MOST_ROOM];
-static uint8_t sheet[XKBRULES_SHEET];
-static uint8_t card[XKBRULES_MOST_CARD + 1]; /* one more than may be, so that the library sees what stands behind a card */
+static uint8_t rules[XKBRULES_MOST_FILE + 1]; /* one more than may be, so that the library sees a longer file as such */
+static uint8_t card[XKBRULES_MOST_CARD + 1];  /* one more than may be, so that the library sees what stands behind a card */
 static size_t card_len;
+static char keymap[XKBRULES_MOST_KEYMAP];
 
-/* -- Showing -- */
-
-/* Bytes that are not 0x20 to 0x7E are shown as \x1B; a tab too, unless it is in a line. */
-static void put_safe(FILE *to, const char *s, size_t n, int in_line)
-{
-    for (size_t i = 0; i < n; i++) {
-        unsigned char c = (unsigned char)s[i];
-        if ((c >= 0x20 && c <= 0x7E) || (c == '\t' && in_line))
-            putc(c, to);
-        else
-            fprintf(to, "\\x%02X", c);
-    }
-}
+/* -- Messages -- */
 
 static void put_word(const char *s)
 {
-    put_safe(stderr, s, strlen(s), 0);
+    put_safe(stderr, (const uint8_t *)s, strlen(s), 0);
 }
 
 static const char *name_of(const char *file)
 {
     return strcmp(file, "-") == 0 ? "<stdin>" : file;
-}
-
-/* A line or a text below its diagnosis, set in and cut. */
-static void put_below(const char *s, size_t n, int in_line)
-{
-    fputs("    ", stderr);
-    put_safe(stderr, s, n < MOST_SHOWN ? n : MOST_SHOWN, in_line);
-    if (n > MOST_SHOWN)
-        fprintf(stderr, " ... (%d of %lu bytes)", MOST_SHOWN, (unsigned long)n);
-    putc('\n', stderr);
 }
 
 /* A message that begins with the program's name; about may be NULL. */
@@ -151,85 +96,115 @@ static int misused(const char *about, const char *what)
     return FAILED;
 }
 
-/* What was printed has arrived, or the command has failed. */
-static int printed(void)
+/* What was printed has arrived, or the command has failed with a status at least as bad. */
+static int printed(int status)
 {
     if (fflush(stdout) != 0 || ferror(stdout))
         return failed("standard output", strerror(errno));
-    return GOOD;
+    return status;
 }
 
 /* -- Refusals -- */
 
-static void put_refusal(unsigned number)
-{
-    int known = number >= 1 && number < sizeof refusals / sizeof refusals[0];
-    fprintf(stderr, "refused %u: %s\n", number, known && refusals[number] != NULL ? refusals[number] : "not a known refusal");
-}
-
-/* The physical line of a number, counted from 1, without its LF. */
-static const char *line_at(uint64_t number, size_t *len)
-{
-    const uint8_t *line = rules, *end = rules + rules_len, *feed;
-
-    while ((feed = memchr(line, '\n', (size_t)(end - line))) != NULL && number > 1) {
-        line = feed + 1;
-        number--;
-    }
-    *len = (size_t)((feed == NULL ? end : feed) - line);
-    return (const char *)line;
-}
-
-static int refused_line(const request *asked, unsigned number, uint64_t place)
-{
-    size_t len;
-    const char *line = line_at(place, &len);
-
-    put_word(name_of(asked->file));
-    fprintf(stderr, ":%llu: ", (unsigned long long)place);
-    put_refusal(number);
-    put_below(line, len, 1);
-    return REFUSED;
-}
-
-static int refused_text(const request *asked, unsigned number, uint64_t place)
-{
-    size_t i = (size_t)place - 1;
-
-    fprintf(stderr, "xkbrules: %s (--%s): ", texts[i].name, texts[i].option);
-    put_refusal(number);
-    put_below(asked->texts[i], strlen(asked->texts[i]), 0);
-    return REFUSED;
-}
-
-/* A refusal that is about no line and no text: the whole file, or the whole answer. */
-static int refused_whole(const request *asked, unsigned number)
-{
-    fputs("xkbrules: ", stderr);
-    put_word(name_of(asked->file));
-    fputs(": ", stderr);
-    put_refusal(number);
-    return number == XKBRULES_LONG_FILE ? FAILED : REFUSED;
-}
-
-static int refused(const request *asked, uint64_t answer)
-{
-    unsigned number = xkbrules_number(answer);
-    uint64_t place = xkbrules_place(answer);
-
-    if (place == 0)
-        return refused_whole(asked, number);
-    if (number == XKBRULES_BAD_TEXT || number == XKBRULES_TOO_MANY)
-        return refused_text(asked, number, place);
-    return refused_line(asked, number, place);
-}
-
-/* -- Answers -- */
-
+/* Where faults go: to standard error, or as JSON to standard output. */
 typedef struct {
-    const uint8_t *in[TEXTS];
-    size_t len[TEXTS];
-} profile;
+    const request *asked;
+    const profile *p;
+    size_t shown;
+    int status;
+    int more; /* some file has bad lines that are not shown */
+} report;
+
+static void show_fault(const diagnosis *d, void *with)
+{
+    report *r = with;
+
+    if (r->asked->json) {
+        fputs(r->shown == 0 ? "\n" : ",\n", stdout);
+        json_diagnosis(stdout, d);
+    } else {
+        show_diagnosis(d, r->p);
+    }
+    r->shown++;
+    if (d->number == XKBRULES_LONG_FILE)
+        r->status = FAILED; /* the file was not looked at */
+    else if (r->status == GOOD)
+        r->status = REFUSED;
+}
+
+static void show_text_fault(const profile *p, verdict v, report *r)
+{
+    diagnosis d;
+
+    diagnose_profile(p, v, &d);
+    show_fault(&d, r);
+}
+
+/* -- Files -- */
+
+/* At most n bytes of a file, or of standard input. */
+static int read_file(const char *file, uint8_t *into, size_t n, size_t *len)
+{
+    FILE *from = strcmp(file, "-") == 0 ? stdin : fopen(file, "rb");
+    int error = 0;
+
+    if (from == NULL)
+        return failed(file, strerror(errno));
+    *len = fread(into, 1, n, from);
+    if (ferror(from))
+        error = errno;
+    if (from != stdin)
+        fclose(from);
+    return error == 0 ? GOOD : failed(name_of(file), strerror(error));
+}
+
+static int read_rules(const char *name, rules_file *file)
+{
+    file->name = name_of(name);
+    file->bytes = rules;
+    return read_file(name, rules, sizeof rules, &file->len);
+}
+
+/* -- check -- */
+
+static void check_file(const char *name, report *r)
+{
+    const request *asked = r->asked;
+    rules_file file;
+    bundle b = {&file, 1};
+    size_t most = asked->all ? (size_t)-1 : asked->limit != 0 ? asked->limit : USUAL_LIMIT;
+    verdict v;
+
+    if (read_rules(name, &file) != GOOD) {
+        r->status = FAILED;
+        return;
+    }
+    v = ask(&b);
+    if (v.number == XKBRULES_ACCEPTED)
+        return;
+    if (!diagnose(&b, v, most, show_fault, r))
+        return;
+    r->more = 1;
+    if (!asked->json) {
+        put_word(file.name);
+        fputs(": more lines are bad; --all shows them\n", stderr);
+    }
+}
+
+static int check(const request *asked)
+{
+    report r = {asked, NULL, 0, GOOD, 0};
+
+    if (asked->json)
+        fputs("{\"faults\":[", stdout);
+    for (size_t i = 0; i < asked->count; i++)
+        check_file(asked->files[i], &r);
+    if (asked->json)
+        printf("%s],\"more\":%s}\n", r.shown == 0 ? "" : "\n", r.more ? "true" : "false");
+    return printed(r.status);
+}
+
+/* -- resolve and card -- */
 
 static profile profile_of(const request *asked)
 {
@@ -240,14 +215,6 @@ static profile profile_of(const request *asked)
         p.len[i] = strlen(asked->texts[i]);
     }
     return p;
-}
-
-static uint64_t answer_for(const request *asked)
-{
-    profile p = profile_of(asked);
-
-    return xkbrules_resolve(rules, rules_len, p.in[MODEL], p.len[MODEL], p.in[LAYOUTS], p.len[LAYOUTS], p.in[VARIANTS], p.len[VARIANTS],
-                            p.in[OPTIONS], p.len[OPTIONS], strings, sizeof strings, sheet, sizeof sheet);
 }
 
 static const char *component(unsigned number, size_t *len)
@@ -268,106 +235,37 @@ static void print_strings(void)
     }
 }
 
-/* A string as both xkbcomp and libxkbcommon read it: \\ is known to both, \" is not, and an octal number ends after three digits in one and four in the
-   other. So a digit that follows one is written as a number too. */
-static void print_quoted(const char *s, size_t len)
+static void print_json(void)
 {
-    int after = 0;
-
-    for (size_t i = 0; i < len; i++) {
-        after = s[i] == '"' || (after && s[i] >= '0' && s[i] <= '7');
-        if (after)
-            printf("\\%03o", (unsigned)(unsigned char)s[i]);
-        else if (s[i] == '\\')
-            fputs("\\\\", stdout);
-        else
-            putchar(s[i]);
-    }
-}
-
-/* A section stands for an empty component too: both readers ask for all but geometry. */
-static void print_keymap(void)
-{
-    puts("xkb_keymap {");
+    fputs("{\"faults\":[],\"strings\":{", stdout);
     for (unsigned i = XKBRULES_KEYCODES; i <= XKBRULES_GEOMETRY; i++) {
         size_t len;
         const char *s = component(i, &len);
-        printf("    xkb_%s {", components[i]);
-        if (len != 0) {
-            fputs(" include \"", stdout);
-            print_quoted(s, len);
-            puts("\" };");
-        } else {
-            puts(" }; // empty");
-        }
+        printf("%s\"%s\":", i == XKBRULES_KEYCODES ? "\n" : ",\n", components[i]);
+        json_string(stdout, s, len);
     }
-    puts("};");
+    fputs("\n}}\n", stdout);
 }
 
-/* -- Cards -- */
+static void print_keymap(void)
+{
+    fwrite(keymap, 1, xkbrules_keymap(strings, sizeof strings, sheet, sizeof sheet, keymap, sizeof keymap), stdout);
+}
 
 /* The card of what was resolved. There is room for every card, so 11 says that a text is too long for one. */
-static int write_card(const request *asked)
+static int write_card(const char *file, const profile *p)
 {
-    profile p = profile_of(asked);
-    uint64_t answer = xkbrules_card_write(p.in[MODEL], p.len[MODEL], p.in[LAYOUTS], p.len[LAYOUTS], p.in[VARIANTS], p.len[VARIANTS],
-                                          p.in[OPTIONS], p.len[OPTIONS], strings, sizeof strings, sheet, sizeof sheet, card, sizeof card);
+    uint64_t answer = xkbrules_card_write(p->in[MODEL], p->len[MODEL], p->in[LAYOUTS], p->len[LAYOUTS], p->in[VARIANTS], p->len[VARIANTS],
+                                          p->in[OPTIONS], p->len[OPTIONS], strings, sizeof strings, sheet, sizeof sheet, card, sizeof card);
 
     if (xkbrules_number(answer) != XKBRULES_ACCEPTED) {
         fputs("xkbrules: ", stderr);
-        put_word(name_of(asked->file));
+        put_word(name_of(file));
         fprintf(stderr, ": refused %u: text over 65,535 bytes, which no card holds\n", xkbrules_number(answer));
         return REFUSED;
     }
     fwrite(card, 1, (size_t)answer, stdout);
-    return printed();
-}
-
-/* A card may hold any bytes, so they are shown as those of a file are. */
-static void print_shown(const char *name, const char *s, size_t len)
-{
-    printf("%s=", name);
-    put_safe(stdout, s, len, 0);
-    putchar('\n');
-}
-
-static int show_card(const request *asked)
-{
-    uint8_t lengths[XKBRULES_CARD_SHEET];
-    const char *at = (const char *)strings;
-    uint64_t answer = xkbrules_card_read(card, card_len, strings, sizeof strings, lengths, sizeof lengths);
-
-    if (xkbrules_number(answer) != XKBRULES_ACCEPTED)
-        return refused(asked, answer);
-    for (size_t i = 0; i < TEXTS; i++) {
-        size_t len = xkbrules_sheet_length(lengths, i);
-        print_shown(texts[i].name, at, len);
-        at += len;
-    }
-    for (unsigned i = XKBRULES_KEYCODES; i <= XKBRULES_GEOMETRY; i++) {
-        size_t room = sizeof strings - (size_t)(at - (const char *)strings);
-        uint64_t c = xkbrules_component((const uint8_t *)at, room, lengths + 4 * TEXTS, XKBRULES_SHEET, i);
-        print_shown(components[i], at + xkbrules_start(c), xkbrules_length(c));
-    }
-    return printed();
-}
-
-/* -- The command -- */
-
-/* At most n bytes of a file, or of standard input. */
-static int read_file(const char *file, uint8_t *into, size_t n, size_t *len)
-{
-    FILE *from = strcmp(file, "-") == 0 ? stdin : fopen(file, "rb");
-    int error = 0;
-
-    if (from == NULL)
-        return failed(file, strerror(errno));
-    *len = fread(into, 1, n, from);
-    if (ferror(from))
-        error = errno;
-    if (from != stdin)
-        fclose(from);
-    return error == 0 ? GOOD : failed(name_of(file), strerror(error));
+    return printed(GOOD);
 }
 
 static int is_command(const request *asked, const char *name)
@@ -375,25 +273,93 @@ static int is_command(const request *asked, const char *name)
     return strcmp(asked->command, name) == 0;
 }
 
-/* A file is checked by resolving the empty profile: all its lines are looked at, and its strings are no longer than the file, so that 11 can't come. */
-static int answered(const request *asked)
+static int print_answer(const request *asked, const profile *p)
 {
-    uint64_t answer = answer_for(asked);
-
-    if (xkbrules_number(answer) != XKBRULES_ACCEPTED)
-        return refused(asked, answer);
-    if (is_command(asked, "check"))
-        return GOOD;
     if (is_command(asked, "card"))
-        return write_card(asked);
+        return write_card(asked->files[0], p);
     if (asked->keymap)
         print_keymap();
+    else if (asked->json)
+        print_json();
     else
         print_strings();
-    return printed();
+    return printed(GOOD);
 }
 
-/* Whether an argument is an option of a long name, after one dash, as setxkbmap has them, or two. What stands behind a `=` is its value. */
+static int refuse(const bundle *b, const profile *p, verdict v, const request *asked)
+{
+    report r = {asked, p, 0, GOOD, 0};
+
+    if (asked->json)
+        fputs("{\"faults\":[", stdout);
+    if (v.number == XKBRULES_BAD_TEXT || v.number == XKBRULES_TOO_MANY)
+        show_text_fault(p, v, &r);
+    else
+        diagnose(b, v, 1, show_fault, &r);
+    if (asked->json)
+        fputs("\n]}\n", stdout);
+    return printed(r.status);
+}
+
+static int resolve(const request *asked)
+{
+    profile p = profile_of(asked);
+    rules_file file;
+    bundle b = {&file, 1};
+    verdict v;
+
+    if (read_rules(asked->files[0], &file) != GOOD)
+        return FAILED;
+    v = ask_profile(&b, &p);
+    return v.number == XKBRULES_ACCEPTED ? print_answer(asked, &p) : refuse(&b, &p, v, asked);
+}
+
+/* -- show-card -- */
+
+/* A card may hold any bytes, so they are shown as those of a file are. */
+static void print_shown(const char *name, const uint8_t *s, size_t len)
+{
+    printf("%s=", name);
+    put_safe(stdout, s, len, 0);
+    putchar('\n');
+}
+
+static int refuse_card(const request *asked, unsigned number)
+{
+    fputs("xkbrules: ", stderr);
+    put_word(name_of(asked->files[0]));
+    fprintf(stderr, ": refused %u: %s\n", number, xkbrules_message(number));
+    return REFUSED;
+}
+
+static int show_card(const request *asked)
+{
+    uint8_t lengths[XKBRULES_CARD_SHEET];
+    const uint8_t *at = strings;
+    uint64_t answer;
+
+    if (read_file(asked->files[0], card, sizeof card, &card_len) != GOOD)
+        return FAILED;
+    answer = xkbrules_card_read(card, card_len, strings, sizeof strings, lengths, sizeof lengths);
+    if (xkbrules_number(answer) != XKBRULES_ACCEPTED)
+        return refuse_card(asked, xkbrules_number(answer));
+    for (size_t i = 0; i < TEXTS; i++) {
+        size_t len = xkbrules_sheet_length(lengths, i);
+        print_shown(text_names[i], at, len);
+        at += len;
+    }
+    for (unsigned i = XKBRULES_KEYCODES; i <= XKBRULES_GEOMETRY; i++) {
+        size_t room = sizeof strings - (size_t)(at - strings);
+        uint64_t c = xkbrules_component(at, room, lengths + 4 * TEXTS, XKBRULES_SHEET, i);
+        print_shown(components[i], at + xkbrules_start(c), xkbrules_length(c));
+    }
+    return printed(GOOD);
+}
+
+/* -- The command line -- */
+
+/* Whether an argument is an option of a long name, after one dash, as setxkbmap has them, or two. What stands
+   behind a `=` is its value. */
 static int is_long(const char *arg, const char *name, const char **value)
 {
     size_t len = strlen(name);
@@ -405,15 +371,17 @@ static int is_long(const char *arg, const char *name, const char **value)
     return 1;
 }
 
-/* The text that an argument is an option for, or TEXTS; with the value if the argument holds it. */
+/* The text that an argument is an option for, or TEXTS; with the value if the argument holds it. The plural is
+   taken too, since xkbcli has --options where setxkbmap has -option. A letter stands alone, so that no mistyped
+   name is taken for one. */
 static int text_of(const char *arg, const char **value)
 {
     for (int i = 0; i < TEXTS; i++)
-        if (is_long(arg, texts[i].option, value) || is_long(arg, texts[i].name, value))
+        if (is_long(arg, text_options[i] + 2, value) || is_long(arg, text_names[i], value))
             return i;
     for (int i = 0; i < TEXTS; i++)
-        if (arg[1] == texts[i].letter) {
-            *value = arg[2] == '\0' ? NULL : arg + 2;
+        if (arg[1] == letters[i] && arg[2] == '\0') {
+            *value = NULL;
             return i;
         }
     return TEXTS;
@@ -436,8 +404,6 @@ static int add_options(request *asked, const char *more)
 
 static int take_text(request *asked, int i, const char *arg, const char *value)
 {
-    if (value == NULL)
-        return misused(arg, "a value has to follow");
     if (i == OPTIONS)
         return add_options(asked, value);
     if (asked->texts[i] != NULL)
@@ -446,14 +412,24 @@ static int take_text(request *asked, int i, const char *arg, const char *value)
     return GOOD;
 }
 
+static int take_limit(request *asked, const char *arg, const char *value)
+{
+    size_t n = 0;
+
+    for (const char *s = value; *s >= '0' && *s <= '9' && n < 1000000; s++, value = s)
+        n = 10 * n + (size_t)(*s - '0');
+    if (*value != '\0' || n == 0)
+        return misused(arg, "a number from 1 on has to follow");
+    asked->limit = n;
+    return GOOD;
+}
+
 static int take_operand(request *asked, const char *arg)
 {
     if (asked->command == NULL)
         asked->command = arg;
-    else if (asked->file == NULL)
-        asked->file = arg;
     else
-        return misused(arg, "one FILE is enough");
+        asked->files[asked->count++] = arg;
     return GOOD;
 }
 
@@ -464,7 +440,7 @@ static int is_flag(const char *arg, const char *letter, const char *name)
     return strcmp(arg, letter) == 0 || (is_long(arg, name, &value) && value == NULL);
 }
 
-/* An option without a value. Asked for before text_of, which would read -version as -v ersion. */
+/* An option without a value. */
 static int take_flag(request *asked, const char *arg)
 {
     if (is_flag(arg, "-h", "help"))
@@ -473,6 +449,10 @@ static int take_flag(request *asked, const char *arg)
         asked->show = "xkbrules " XKBRULES_VERSION "\n";
     else if (is_flag(arg, "--keymap", "keymap"))
         asked->keymap = 1;
+    else if (is_flag(arg, "--json", "json"))
+        asked->json = 1;
+    else if (is_flag(arg, "--all", "all"))
+        asked->all = 1;
     else
         return 0;
     return 1;
@@ -482,18 +462,21 @@ static int take_flag(request *asked, const char *arg)
 static int take(request *asked, char **argv, int *at)
 {
     const char *arg = argv[(*at)++], *value;
-    int i;
+    int i, limit;
 
     if (arg[0] != '-' || arg[1] == '\0')
         return take_operand(asked, arg);
     if (take_flag(asked, arg))
         return GOOD;
-    i = text_of(arg, &value);
-    if (i == TEXTS)
+    limit = is_long(arg, "limit", &value);
+    i = limit ? TEXTS : text_of(arg, &value);
+    if (i == TEXTS && !limit)
         return misused(arg, "not an option");
     if (value == NULL && argv[*at] != NULL)
         value = argv[(*at)++];
-    return take_text(asked, i, arg, value);
+    if (value == NULL)
+        return misused(arg, "a value has to follow");
+    return limit ? take_limit(asked, arg, value) : take_text(asked, i, arg, value);
 }
 
 static int take_all(request *asked, char **argv)
@@ -509,27 +492,47 @@ static int take_all(request *asked, char **argv)
     return status;
 }
 
+/* What a command takes beside its files. */
+static int fits(const request *asked)
+{
+    int given = asked->keymap, checks = is_command(asked, "check"), resolves = is_command(asked, "resolve");
+
+    for (int i = 0; i < TEXTS; i++)
+        given = given || asked->texts[i] != NULL;
+    if (given && (checks || is_command(asked, "show-card")))
+        return misused(asked->command, "takes no profile and no --keymap; resolve does");
+    if (asked->keymap && !resolves)
+        return misused(asked->command, "takes no --keymap; resolve does");
+    if (asked->json && !checks && !resolves)
+        return misused(asked->command, "takes no --json; check and resolve do");
+    if ((asked->all || asked->limit != 0) && !checks)
+        return misused(asked->command, "takes no --all and no --limit; check does");
+    if (asked->all && asked->limit != 0)
+        return misused("--all", "given beside --limit");
+    if (asked->keymap && asked->json)
+        return misused("--keymap", "given beside --json");
+    return GOOD;
+}
+
 /* What take_all can't see before the end; missing texts become empty ones. */
 static int complete(request *asked)
 {
-    int given = asked->keymap, shows;
+    int shows;
 
     if (asked->command == NULL)
         return misused(NULL, "check, resolve, card or show-card is missing");
     shows = is_command(asked, "show-card");
     if (!is_command(asked, "check") && !is_command(asked, "resolve") && !is_command(asked, "card") && !shows)
         return misused(asked->command, "not check, resolve, card or show-card");
-    if (asked->file == NULL)
+    if (asked->count == 0)
         return misused(asked->command, shows ? "CARD is missing, a card or - for standard input" : "FILE is missing, a rules file or - for standard input");
-    for (int i = 0; i < TEXTS; i++) {
-        given = given || asked->texts[i] != NULL;
+    if (asked->count > 1 && !is_command(asked, "check"))
+        return misused(asked->files[1], "one FILE is enough");
+    if (fits(asked) != GOOD)
+        return FAILED;
+    for (int i = 0; i < TEXTS; i++)
         if (asked->texts[i] == NULL)
             asked->texts[i] = "";
-    }
-    if (given && (is_command(asked, "check") || shows))
-        return misused(asked->command, "takes no profile and no --keymap; resolve does");
-    if (asked->keymap && is_command(asked, "card"))
-        return misused("card", "takes no --keymap; resolve does");
     return GOOD;
 }
 
@@ -539,27 +542,29 @@ static int run(request *asked, char **argv)
 
     if (status == GOOD && asked->show != NULL) {
         fputs(asked->show, stdout);
-        return printed();
+        return printed(GOOD);
     }
     if (status == GOOD)
         status = complete(asked);
     if (status != GOOD)
         return status;
-    if (is_command(asked, "show-card")) {
-        status = read_file(asked->file, card, sizeof card, &card_len);
-        return status == GOOD ? show_card(asked) : status;
-    }
-    status = read_file(asked->file, rules, sizeof rules, &rules_len);
-    return status == GOOD ? answered(asked) : status;
+    if (is_command(asked, "show-card"))
+        return show_card(asked);
+    return is_command(asked, "check") ? check(asked) : resolve(asked);
 }
 
 int main(int argc, char **argv)
 {
-    request asked = {NULL, NULL, NULL, {NULL, NULL, NULL, NULL}, NULL, 0};
+    request asked;
     int status;
 
+    memset(&asked, 0, sizeof asked);
+    asked.files = calloc((size_t)argc + 1, sizeof *asked.files);
+    if (asked.files == NULL)
+        return failed(NULL, strerror(errno));
     setvbuf(stderr, NULL, _IOFBF, BUFSIZ); /* a diagnosis is written whole, also where several commands write at once */
     status = run(&asked, argc > 0 ? argv + 1 : argv);
     free(asked.options);
+    free(asked.files);
     return status;
 }

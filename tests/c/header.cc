@@ -1,7 +1,22 @@
-// The header in C++: its declarations, and its helpers in use.
+// The headers in C++: their declarations, and their helpers in use; every number of enum xkbrules_refusal has a message
+// of its own.
 #include <cstdint>
+#include <cstring>
+#include <set>
+#include <string>
 
-#include "xkbrules.h"
+#include "xkbrules-keymap.h"
+
+static bool messages()
+{
+    const unsigned numbers[] = {XKBRULES_ACCEPTED, XKBRULES_BAD_TEXT, XKBRULES_TOO_MANY, XKBRULES_LONG_FILE, XKBRULES_BAD_BYTE, XKBRULES_LONG_WORD, XKBRULES_BAD_LINE,
+                                XKBRULES_BAD_HEADING, XKBRULES_BAD_PERCENT, XKBRULES_INCLUDE, XKBRULES_BAD_GROUP, XKBRULES_NO_ROOM, XKBRULES_BROKEN_CARD};
+    std::set<std::string> seen;
+    for (unsigned n : numbers)
+        seen.insert(xkbrules_message(n));
+    seen.insert(xkbrules_message(65535));
+    return seen.size() == sizeof numbers / sizeof numbers[0] + 1 && std::strcmp(xkbrules_version(), XKBRULES_VERSION) == 0;
+}
 
 int main()
 {
@@ -11,6 +26,9 @@ int main()
     std::uint8_t card[64], lengths[XKBRULES_CARD_SHEET];
     std::uint64_t size = xkbrules_card_write(nullptr, 0, nullptr, 0, nullptr, 0, nullptr, 0, nullptr, 0, sheet, sizeof sheet, card, sizeof card);
     if (size != 28 || xkbrules_card_read(card, 28, nullptr, 0, lengths, sizeof lengths) != 0 || xkbrules_sheet_length(lengths, 13) != 0)
+        return 1;
+    char keymap[XKBRULES_KEYMAP_ROOM];
+    if (xkbrules_keymap(nullptr, 0, sheet, sizeof sheet, keymap, sizeof keymap) != std::strlen(keymap) || !messages())
         return 1;
     return xkbrules_number(answer) == XKBRULES_ACCEPTED && xkbrules_place(answer) == 0 && xkbrules_start(c) == 0 && xkbrules_length(c) == 0 ? 0 : 1;
 }

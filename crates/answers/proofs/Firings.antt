@@ -20,7 +20,7 @@ use Rattle.rules.proofs.Fresh.{freshWord, freshHead, fresh, with-beside}
 use Rattle.values.specs.Spread.{expanded}
 use Rattle.answers.specs.Matching.{members, wordMatches, valueMatches, columnMatches, ruleMatches, isOptions}
 use Rattle.answers.specs.Layouts.{layoutsOf}
-use Rattle.answers.specs.Firings.{Firing, fired, ruleFires, setFires, ruleByRule, headFires, firings, fileFirings}
+use Rattle.answers.specs.Firings.{Firing, fired, ruleFires, firesAt, setFires, ruleByRule, headFires, firings, fileFirings}
 use Rattle.answers.specs.Components.{valuesOf}
 use Rattle.answers.proofs.Updates.{nonEmpty}
 
@@ -36,12 +36,6 @@ firings-append gs p (s ∷ a) b = rw (firings-append (withGroup (s .head) gs) p 
 unfoldable pub shiftFiring : ℕ → Firing → Firing
 shiftFiring k f = record { line = f .line + k; layout = f .layout; component = f .component; value = f .value }
 
-map-arms {ℓ κ} : {A : Type ℓ} {B : Type κ} (f : A → B) (t u : Bool) (a b : List A) →
-    cond t (map f a ++ cond u (map f b) []) (map f b) ≡ map f (cond t (a ++ cond u b []) b)
-map-arms f true true a b = sym (map-append f a b)
-map-arms f true false a b = sym (map-append f a [])
-map-arms f false u a b = refl
-
 fired-shift : (j n k c : ℕ) (v : Text) → fired (n + j) k c v ≡ map (shiftFiring j) (fired n k c v)
 unfolding fired shiftFiring empty
 fired-shift j n k c [] = refl
@@ -53,32 +47,34 @@ rule-fires-shift p j n k [] ws = refl
 rule-fires-shift p j n k (c ∷ cs) [] = refl
 rule-fires-shift p j n k (c ∷ cs) (w ∷ ws) = rw (fired-shift, rule-fires-shift p j n k cs ws, map-append)
 
-set-fires-shift : (every : Bool) (look : Text → Words) (p : Profile) (h : Heading) (j k : ℕ) (rs : List Rule) →
-    setFires every look p h k (map (shiftRule j) rs) ≡ map (shiftFiring j) (setFires every look p h k rs)
+at-shift : (p : Profile) (h : Heading) (j : ℕ) (r : Rule) (k : ℕ) → firesAt p h (shiftRule j r) k ≡ map (shiftFiring j) (firesAt p h r k)
+unfolding firesAt shiftRule
+at-shift p h j r k = rule-fires-shift p j (r .number) k (h .components) (rightWords h (r .text))
+
+arms-shift : (j : ℕ) (t : Bool) (a b : List Firing) → cond t (map (shiftFiring j) a) (map (shiftFiring j) b) ≡ map (shiftFiring j) (cond t a b)
+arms-shift j true a b = refl
+arms-shift j false a b = refl
+
+set-fires-shift : (look : Text → Words) (p : Profile) (h : Heading) (j k : ℕ) (rs : List Rule) →
+    setFires look p h k (map (shiftRule j) rs) ≡ map (shiftFiring j) (setFires look p h k rs)
 unfolding setFires shiftRule
-set-fires-shift every look p h j k [] = refl
-set-fires-shift every look p h j k (r ∷ rs) =
-    rw (rule-fires-shift p j (r .number) k (h .components) (rightWords h (r .text)), set-fires-shift every look p h j k rs)
-    (map-arms (shiftFiring j) (ruleMatches look p k (h .columns) (r .text)) every (ruleFires p (r .number) k (h .components) (rightWords h (r .text))) (setFires every look p h k rs))
+set-fires-shift look p h j k [] = refl
+set-fires-shift look p h j k (r ∷ rs) =
+    rw (at-shift p h j r k, set-fires-shift look p h j k rs)
+    (arms-shift j (ruleMatches look p k (h .columns) (r .text)) (firesAt p h r k) (setFires look p h k rs))
 
-pick-shift : (j : ℕ) (t : Bool) (a : List Firing) → cond t (map (shiftFiring j) a) [] ≡ map (shiftFiring j) (cond t a [])
-pick-shift j true a = refl
-pick-shift j false a = refl
-
-pub by-rule-shift : (look : Text → Words) (p : Profile) (h : Heading) (ks : List ℕ) (j : ℕ) (rs : List Rule) →
+by-rule-shift : (look : Text → Words) (p : Profile) (h : Heading) (ks : List ℕ) (j : ℕ) (rs : List Rule) →
     ruleByRule look p h ks (map (shiftRule j) rs) ≡ map (shiftFiring j) (ruleByRule look p h ks rs)
 unfolding ruleByRule shiftRule
 by-rule-shift look p h ks j [] = refl
 by-rule-shift look p h ks j (r ∷ rs) =
     rw (
-      map-concat (shiftFiring j) (λ k. cond (ruleMatches look p k (h .columns) (r .text)) (ruleFires p (r .number) k (h .components) (rightWords h (r .text))) [])
-          (λ k. cond (ruleMatches look p k (h .columns) (r .text)) (ruleFires p (r .number + j) k (h .components) (rightWords h (r .text))) []) ks
-          (λ k. rw (rule-fires-shift p j (r .number) k (h .components) (rightWords h (r .text)))
-          (pick-shift j (ruleMatches look p k (h .columns) (r .text)) (ruleFires p (r .number) k (h .components) (rightWords h (r .text))))),
+      map-concat (shiftFiring j) (λ k. cond (ruleMatches look p k (h .columns) (r .text)) (firesAt p h r k) [])
+          (λ k. cond (ruleMatches look p k (h .columns) (r .text)) (firesAt p h (shiftRule j r) k) []) ks
+          (λ k. rw (at-shift p h j r k) (arms-shift j (ruleMatches look p k (h .columns) (r .text)) (firesAt p h r k) [])),
       by-rule-shift look p h ks j rs,
     )
-    (sym (map-append (shiftFiring j) (concatMap (λ k. cond (ruleMatches look p k (h .columns) (r .text)) (ruleFires p (r .number) k (h .components) (rightWords h (r .text))) []) ks)
-    (ruleByRule look p h ks rs)))
+    (sym (map-append (shiftFiring j) (concatMap (λ k. cond (ruleMatches look p k (h .columns) (r .text)) (firesAt p h r k) []) ks) (ruleByRule look p h ks rs)))
 
 head-fires-shift : (gs : Groups) (p : Profile) (k : ℕ) (h : Head) (rs : List Rule) →
     headFires gs p h (map (shiftRule k) rs) ≡ map (shiftFiring k) (headFires gs p h rs)
@@ -86,7 +82,13 @@ unfolding headFires
 head-fires-shift gs p k (bad j) rs = refl
 head-fires-shift gs p k (defines g ms) rs = refl
 head-fires-shift gs p k (applies h) rs =
-    map-concat (shiftFiring k) _ _ (layoutsOf (layoutCount p) h) (λ i. set-fires-shift (anyOf isOptions (h .columns)) (members gs) p h k i rs)
+    rw (
+      by-rule-shift (members gs) p h (layoutsOf (layoutCount p) h) k rs,
+      map-concat (shiftFiring k) (λ i. setFires (members gs) p h i rs) (λ i. setFires (members gs) p h i (map (shiftRule k) rs)) (layoutsOf (layoutCount p) h)
+          (λ i. set-fires-shift (members gs) p h k i rs),
+    )
+    (arms-shift k (anyOf isOptions (h .columns)) (ruleByRule (members gs) p h (layoutsOf (layoutCount p) h) rs)
+    (concatMap (λ i. setFires (members gs) p h i rs) (layoutsOf (layoutCount p) h)))
 
 pub firings-shift : (gs : Groups) (p : Profile) (k : ℕ) (ss : List Section) →
     firings gs p (map (shiftSection k) ss) ≡ map (shiftFiring k) (firings gs p ss)
@@ -141,21 +143,21 @@ rule-beside gs g p k (c ∷ cs) (w ∷ ws) h =
     let b = and-both (freshWord g w) (allOf (freshWord g) (take (length cs) ws)) h in
     rw (column-beside gs g p k c w (b .0), rule-beside gs g p k cs ws (b .1))
 
-set-beside : (every : Bool) (gs g : Groups) (p : Profile) (h : Heading) (k : ℕ) (rs : List Rule) →
-    allOf (λ r. allOf (freshWord g) (leftWords h (r .text))) rs ≡ true → setFires every (members (gs ++ g)) p h k rs ≡ setFires every (members gs) p h k rs
+set-beside : (gs g : Groups) (p : Profile) (h : Heading) (k : ℕ) (rs : List Rule) →
+    allOf (λ r. allOf (freshWord g) (leftWords h (r .text))) rs ≡ true → setFires (members (gs ++ g)) p h k rs ≡ setFires (members gs) p h k rs
 unfolding setFires allOf leftWords
-set-beside every gs g p h k [] f = refl
-set-beside every gs g p h k (r ∷ rs) f =
+set-beside gs g p h k [] f = refl
+set-beside gs g p h k (r ∷ rs) f =
     let b = and-both (allOf (freshWord g) (leftWords h (r .text))) (allOf (λ r. allOf (freshWord g) (leftWords h (r .text))) rs) f in
-    rw (rule-beside gs g p k (h .columns) (r .text) (b .0), set-beside every gs g p h k rs (b .1))
+    rw (rule-beside gs g p k (h .columns) (r .text) (b .0), set-beside gs g p h k rs (b .1))
 
-pub by-rule-beside : (gs g : Groups) (p : Profile) (h : Heading) (ks : List ℕ) (rs : List Rule) →
+by-rule-beside : (gs g : Groups) (p : Profile) (h : Heading) (ks : List ℕ) (rs : List Rule) →
     allOf (λ r. allOf (freshWord g) (leftWords h (r .text))) rs ≡ true → ruleByRule (members (gs ++ g)) p h ks rs ≡ ruleByRule (members gs) p h ks rs
 unfolding ruleByRule allOf leftWords
 by-rule-beside gs g p h ks [] f = refl
 by-rule-beside gs g p h ks (r ∷ rs) f =
     let b = and-both (allOf (freshWord g) (leftWords h (r .text))) (allOf (λ r. allOf (freshWord g) (leftWords h (r .text))) rs) f in
-    ap (λ (m : ℕ → Bool). concatMap (λ k. cond (m k) (ruleFires p (r .number) k (h .components) (rightWords h (r .text))) []) ks ++ ruleByRule (members (gs ++ g)) p h ks rs)
+    ap (λ (m : ℕ → Bool). concatMap (λ k. cond (m k) (firesAt p h r k) []) ks ++ ruleByRule (members (gs ++ g)) p h ks rs)
     (fun-ext (λ k. rule-beside gs g p k (h .columns) (r .text) (b .0)))
     ∙ rw (by-rule-beside gs g p h ks rs (b .1)) refl
 
@@ -164,7 +166,10 @@ unfolding headFires freshHead
 head-fires-beside gs g p (bad k) rs f = refl
 head-fires-beside gs g p (defines n ms) rs f = refl
 head-fires-beside gs g p (applies h) rs f =
-    ap (λ (q : ℕ → List Firing). concatMap q (layoutsOf (layoutCount p) h)) (fun-ext (λ k. set-beside (anyOf isOptions (h .columns)) gs g p h k rs f))
+    rw (by-rule-beside gs g p h (layoutsOf (layoutCount p) h) rs f)
+    (ap (λ (q : ℕ → List Firing). cond (anyOf isOptions (h .columns)) (ruleByRule (members gs) p h (layoutsOf (layoutCount p) h) rs)
+    (concatMap q (layoutsOf (layoutCount p) h)))
+    (fun-ext (λ k. set-beside gs g p h k rs f)))
 
 pub firings-beside : (gs g : Groups) (p : Profile) (ss : List Section) → fresh g ss ≡ true → firings (gs ++ g) p ss ≡ firings gs p ss
 unfolding firings fresh allOf
@@ -190,24 +195,23 @@ rule-full p n k (c ∷ cs) [] = refl
 rule-full p n k (c ∷ cs) (w ∷ ws) =
     all-append full (fired n k c (expanded p k w)) (ruleFires p n k cs ws) (fired-full n k c (expanded p k w)) (rule-full p n k cs ws)
 
-set-full : (every : Bool) (look : Text → Words) (p : Profile) (h : Heading) (k : ℕ) (rs : List Rule) → allOf full (setFires every look p h k rs) ≡ true
-unfolding setFires allOf
-set-full every look p h k [] = refl
-set-full every look p h k (r ∷ rs) =
-    let m = set-full every look p h k rs in
-    let now = ruleFires p (r .number) k (h .components) (rightWords h (r .text)) in
-    let more = cond every (setFires every look p h k rs) [] in
-    all-cond full (ruleMatches look p k (h .columns) (r .text)) (now ++ more) (setFires every look p h k rs)
-    (all-append full now more (rule-full p (r .number) k (h .components) (rightWords h (r .text))) (all-cond full every (setFires every look p h k rs) [] m refl))
-    m
+at-full : (p : Profile) (h : Heading) (r : Rule) (k : ℕ) → allOf full (firesAt p h r k) ≡ true
+unfolding firesAt
+at-full p h r k = rule-full p (r .number) k (h .components) (rightWords h (r .text))
 
-pub by-rule-full : (look : Text → Words) (p : Profile) (h : Heading) (ks : List ℕ) (rs : List Rule) → allOf full (ruleByRule look p h ks rs) ≡ true
+set-full : (look : Text → Words) (p : Profile) (h : Heading) (k : ℕ) (rs : List Rule) → allOf full (setFires look p h k rs) ≡ true
+unfolding setFires allOf
+set-full look p h k [] = refl
+set-full look p h k (r ∷ rs) =
+    all-cond full (ruleMatches look p k (h .columns) (r .text)) (firesAt p h r k) (setFires look p h k rs) (at-full p h r k) (set-full look p h k rs)
+
+by-rule-full : (look : Text → Words) (p : Profile) (h : Heading) (ks : List ℕ) (rs : List Rule) → allOf full (ruleByRule look p h ks rs) ≡ true
 unfolding ruleByRule allOf
 by-rule-full look p h ks [] = refl
 by-rule-full look p h ks (r ∷ rs) =
-    all-append full (concatMap (λ k. cond (ruleMatches look p k (h .columns) (r .text)) (ruleFires p (r .number) k (h .components) (rightWords h (r .text))) []) ks)
+    all-append full (concatMap (λ k. cond (ruleMatches look p k (h .columns) (r .text)) (firesAt p h r k) []) ks)
     (ruleByRule look p h ks rs)
-    (all-concat full _ ks (λ k. all-cond full (ruleMatches look p k (h .columns) (r .text)) _ [] (rule-full p (r .number) k (h .components) (rightWords h (r .text))) refl))
+    (all-concat full _ ks (λ k. all-cond full (ruleMatches look p k (h .columns) (r .text)) _ [] (at-full p h r k) refl))
     (by-rule-full look p h ks rs)
 
 head-full : (gs : Groups) (p : Profile) (h : Head) (rs : List Rule) → allOf full (headFires gs p h rs) ≡ true
@@ -215,7 +219,8 @@ unfolding headFires allOf
 head-full gs p (bad k) rs = refl
 head-full gs p (defines g ms) rs = refl
 head-full gs p (applies h) rs =
-    all-concat full _ (layoutsOf (layoutCount p) h) (λ k. set-full (anyOf isOptions (h .columns)) (members gs) p h k rs)
+    all-cond full (anyOf isOptions (h .columns)) _ _ (by-rule-full (members gs) p h (layoutsOf (layoutCount p) h) rs)
+    (all-concat full _ (layoutsOf (layoutCount p) h) (λ k. set-full (members gs) p h k rs))
 
 firings-full : (gs : Groups) (p : Profile) (ss : List Section) → allOf full (firings gs p ss) ≡ true
 unfolding firings allOf

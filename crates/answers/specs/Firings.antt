@@ -1,7 +1,7 @@
 -- The values that fire, in firing order. Document 01, "Which sets apply, and at which layout".
 use Prim.Native.Nat.{ℕ}
 use mathlib.Core.List.{List, [], _∷_, _++_}
-use mathlib.Core.Bool.{Bool, cond}
+use mathlib.Core.Bool.{cond}
 use Rattle.text.specs.Bytes.{Text, Words, empty, anyOf, concatMap}
 use Rattle.text.specs.Lines.{lines}
 use Rattle.profile.specs.Profile.{Profile, layoutCount}
@@ -29,28 +29,31 @@ ruleFires p n k [] ws = []
 ruleFires p n k (c ∷ cs) [] = []
 ruleFires p n k (c ∷ cs) (w ∷ ws) = fired n k c (expanded p k w) ++ ruleFires p n k cs ws
 
--- "In a set without an option column the first matching rule fires and the rest are passed over; with one, every matching rule fires, in file
--- order": the rules of a set at a layout; the flag: every matching rule fires.
-unfoldable pub setFires : Bool → (Text → Words) → Profile → Heading → ℕ → List Rule → List Firing
-setFires every look p h k [] = []
-setFires every look p h k (r ∷ rs) =
-    let more = setFires every look p h k rs in
-    let now = ruleFires p (r .number) k (h .components) (rightWords h (r .text)) in
-    cond (ruleMatches look p k (h .columns) (r .text)) (now ++ cond every more []) more
+-- a rule fired at a layout
+unfoldable pub firesAt : Profile → Heading → Rule → ℕ → List Firing
+firesAt p h r k = ruleFires p (r .number) k (h .components) (rightWords h (r .text))
 
--- #105: "In a set with an option column and a range, take rule by rule, and for each rule the layouts in ascending order": the rules of a set at some layouts.
+-- "In a set without an option column the first matching rule fires and the rest are passed over": the rules of a set at a layout
+unfoldable pub setFires : (Text → Words) → Profile → Heading → ℕ → List Rule → List Firing
+setFires look p h k [] = []
+setFires look p h k (r ∷ rs) = let more = setFires look p h k rs in cond (ruleMatches look p k (h .columns) (r .text)) (firesAt p h r k) more
+
+-- "with one, every matching rule fires, in file order". #105: "In a set with an option column and a range, take rule by rule, and for each rule
+-- the layouts in ascending order": the rules of a set at some layouts
 unfoldable pub ruleByRule : (Text → Words) → Profile → Heading → List ℕ → List Rule → List Firing
 ruleByRule look p h ks [] = []
 ruleByRule look p h ks (r ∷ rs) =
     let more = ruleByRule look p h ks rs in
-    concatMap (λ k. cond (ruleMatches look p k (h .columns) (r .text)) (ruleFires p (r .number) k (h .components) (rightWords h (r .text))) []) ks ++ more
+    concatMap (λ k. cond (ruleMatches look p k (h .columns) (r .text)) (firesAt p h r k) []) ks ++ more
 
--- "For a range the whole set is run for each of its layouts in ascending order"
+-- "For a range the whole set is run for each of its layouts in ascending order"; #105: "For other sets 01's "whole set is run" stays"
 unfoldable pub headFires : Groups → Profile → Head → List Rule → List Firing
 headFires gs p (bad k) rs = []
 headFires gs p (defines g ms) rs = []
 headFires gs p (applies h) rs =
-    concatMap (λ k. setFires (anyOf isOptions (h .columns)) (members gs) p h k rs) (layoutsOf (layoutCount p) h)
+    cond (anyOf isOptions (h .columns))
+    (ruleByRule (members gs) p h (layoutsOf (layoutCount p) h) rs)
+    (concatMap (λ k. setFires (members gs) p h k rs) (layoutsOf (layoutCount p) h))
 
 unfoldable pub firings : Groups → Profile → List Section → List Firing
 firings gs p [] = []

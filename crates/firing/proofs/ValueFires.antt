@@ -4,16 +4,16 @@ use native.Mathlib.Omega.{arith}
 use native.Mathlib.Numerals.{add-one}
 use mathlib.Core.Path.{_≡_, refl, sym, ap, _∙_}
 use mathlib.Core.List.{List, [], _∷_, _++_}
-use mathlib.Core.Bool.{Bool, true, false}
+use mathlib.Core.Bool.{Bool, false}
 use lib.ListN.{length, take, drop, getD, length-drop, drop-of-length-le}
 use lib.Seq.{drop-cons}
 use lib.Dec.{ltb}
 use borrow.Author.Tests.{ltb-false}
 use Rattle.text.specs.Bytes.{Text, Words, part, anyOf, concatMap}
 use Rattle.text.specs.Words.{tooLong}
-use Rattle.text.specs.Reading.{left, FoundWord, NoWord, Passed}
+use Rattle.text.specs.Reading.{left, FoundWord, NoWord}
 use Rattle.text.proofs.Lists.{neither, any-drop}
-use Rattle.text.proofs.Passing.{Passing, passing-start, passing-word, passing-stop, passing-then}
+use Rattle.text.proofs.Passing.{Passing, passing-start, passing-word}
 use Rattle.profile.specs.Profile.{Profile, layoutCount}
 use Rattle.values.specs.Values.{filled}
 use Rattle.values.specs.Filling.{Filled, isPercent}
@@ -21,9 +21,8 @@ use Rattle.values.specs.Spread.{cuts, spread, expanded}
 use Rattle.values.proofs.Filling.{filled-plain}
 use Rattle.values.proofs.Profiles.{expanded-by}
 use Rattle.firing.specs.declared.Cursors.{Cursors}
-use Rattle.firing.specs.declared.RuleRun.{RuleRun}
 use Rattle.answers.specs.Firings.{fired, ruleFires}
-use Rattle.firing.specs.Writing.{FiredOne, Low, runBuf, runCur, ShortWords, FiredRule, FiredLine, BehindFirst}
+use Rattle.firing.specs.Writing.{FiredOne, Low, runBuf, runCur, ShortWords, FiredRule, BehindFirst}
 use Rattle.firing.specs.Line.{Fires, RightWords}
 use Rattle.firing.proofs.Going.{Going, going-start, going-more, going-end}
 
@@ -112,13 +111,6 @@ module _ (p : Profile) (s : Text) (from n : ℕ) (d₀ : Text) (q₀ : Cursors) 
     pub words-none : (r l : ℕ) → NoWord s i m r l → FiredRule p d₀ d q₀ q k cs (left s from)
     words-none r l w = fired-all (w .none)
 
-    -- and the rest of the line is passed over
-    pub words-passed : length (left s from) ≤ j → (r l : ℕ) → Passed s i m r l → FiredLine p cs (left s from) s from n d₀ d q₀ k (record { fired = true; at = r; line = l; cursors = q })
-    words-passed h r l w = record { told = refl; fires = words-fired h; passed = passing-then s from n i m (v .passing) r l w }
-
-    pub words-end : (r l : ℕ) → NoWord s i m r l → FiredLine p cs (left s from) s from n d₀ d q₀ k (record { fired = true; at = r; line = l; cursors = q })
-    words-end r l w = record { told = refl; fires = words-none r l w; passed = passing-stop s from n i m (v .passing) r l w }
-
 -- behind the first word of a line
 
 module _ (s : Text) (from n : ℕ) where
@@ -142,16 +134,6 @@ module _ (s : Text) (from n : ℕ) where
         FiredRule p d d′ q q′ k cs (drop 1 (left s from))
     behind-rule p cs d d′ q q′ k f = rw (v .text) at f
 
-    pub behind-fired : (p : Profile) (cs : List ℕ) (d d′ : Text) (q : Cursors) (k : ℕ) (r : RuleRun) → FiredLine p cs (left s i) s i m d d′ q k r →
-        FiredLine p cs (drop 1 (left s from)) s from n d d′ q k r
-    behind-fired p cs d d′ q k r f =
-        record {
-          told = f .told;
-          fires = behind-rule p cs d d′ q (r .cursors) k (f .fires);
-          passed =
-              passing-then s from n i m (record { low = v .low; high = v .high; few = v .few; onto = v .onto }) (r .at) (r .line) (f .passed);
-        }
-
 -- a rule fires the same with any profile that has the same values
 
 module _ (p p′ : Profile) (k : ℕ) (same : (w : Text) → expanded p k w ≡ expanded p′ k w) where
@@ -160,10 +142,6 @@ module _ (p p′ : Profile) (k : ℕ) (same : (w : Text) → expanded p k w ≡ 
   fires-same l [] ws = refl
   fires-same l (c ∷ cs) [] = refl
   fires-same l (c ∷ cs) (w ∷ ws) = rw (same w, fires-same l cs ws)
-
-  pub rule-same : (d d′ : Text) (q q′ : Cursors) (cs : List ℕ) (ws : Words) → FiredRule p d d′ q q′ k cs ws → FiredRule p′ d d′ q q′ k cs ws
-  rule-same d d′ q q′ cs ws f =
-      record { bytes = λ l. rw (fires-same l cs ws) at (f .bytes l); places = λ l. rw (fires-same l cs ws) at (f .places l) }
 
 -- one word after the other, and the right words of a rule
 
@@ -179,6 +157,3 @@ fires-again s b n k x x′ d d′ q q′ f e g low =
       buf = omega (arith, f .buf);
       low = low;
     }
-
-pub right-words : (ws : Words) (c : ℕ) → length ws ≡ 1 + c → c ≤ 5 → ShortWords ws → RightWords (drop 1 ws) c
-right-words ws c e h k = record { all = length-drop 1 ws ∙ omega arith; few = h; short = any-drop tooLong 1 ws k }

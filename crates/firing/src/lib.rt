@@ -1,7 +1,6 @@
 // The values of rules, fired into ten regions of one lent buffer.
 
 pub mod line;
-pub mod rule;
 pub mod stage;
 pub mod writing;
 
@@ -20,14 +19,6 @@ pub struct Cursors {
 pub struct Sums {
     pub at: [u32; 10],
     pub total: u32,
-}
-
-// A rule's line that was run: whether it fired, where the next line starts, its number, and what was written.
-pub struct RuleRun {
-    pub fired: bool,
-    pub at: usize,
-    pub line: usize,
-    pub cursors: Cursors,
 }
 
 // The right side of a set's rules at a layout: the components, which are `count`, the layout count n and the matched layout k.

@@ -14,7 +14,7 @@ use Rattle.rules.specs.declared.Index.{Index}
 use Rattle.rules.specs.declared.Index.the-variants as index
 use Rattle.rules.specs.declared.Item.the-variants as item
 use Rattle.rules.specs.Headings.{upFrom, numberedIn, indexOf, leftItem, indexesIn, firstIndex}
-use Rattle.matching.specs.Ranges.{FromOne}
+use Rattle.rules.specs.Held.{FromOne}
 
 unfoldable oneUp : Index → Bool
 oneUp index.Absent = true

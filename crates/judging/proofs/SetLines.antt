@@ -20,7 +20,7 @@ use Rattle.rules.specs.Splitting.{wordsOf, IsSplit}
 use Rattle.rules.specs.Sets.{IsSet}
 use Rattle.rules.specs.Checking.{lineOf}
 use Rattle.rules.proofs.LineKinds.{set-good}
-use Rattle.matching.proofs.HeldHeadings.{heading-held, sized-held}
+use Rattle.rules.proofs.HeldHeadings.{heading-held, sized-held}
 use Rattle.judging.specs.declared.SetJudged.{SetJudged}
 use Rattle.judging.specs.Sets.{refusedSet, SetOf, SetLineOf}
 use Rattle.judging.proofs.Indexed.{index-from-one}

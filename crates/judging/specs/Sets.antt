@@ -9,8 +9,7 @@ use Rattle.rules.specs.declared.Index.the-variants as index
 use Rattle.rules.specs.declared.SetHeading.{SetHeading}
 use Rattle.rules.specs.Entries.{Entry, wrong as wrongAs, set as setOf, entryOf}
 use Rattle.rules.specs.Checking.{lineOf}
-use Rattle.matching.specs.Held.{headingBy, SetSized}
-use Rattle.matching.specs.Ranges.{FromOne}
+use Rattle.rules.specs.Held.{headingBy, SetSized, FromOne}
 use Rattle.judging.specs.declared.SetJudged.{SetJudged}
 use Rattle.judging.specs.declared.SetLine.{SetLine}
 

@@ -1,7 +1,7 @@
 // A group line: its words are judged, and their rows are found, as they are read.
 ghost use mathlib.Core.Path.{_≡_};
 ghost use mathlib.Core.Bool.{_&&_};
-ghost use Rattle.text.specs.Reading.{left, Table, Fenced, Within};
+ghost use Rattle.text.specs.Reading.{Table, Fenced, Within};
 ghost use Rattle.rules.specs.Words.{isEquals, isGroupName, ordinary as ordinaryWord};
 ghost use Rattle.listing.specs.Names.{Named};
 ghost use Rattle.names.specs.Compiled.{union};

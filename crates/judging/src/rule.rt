@@ -14,7 +14,7 @@ use super::Judged;
 use super::RuleLine;
 use rules::Present;
 use rules::Split;
-use rules::check::fence_behind;
+use rules::lines::fence_behind;
 use rules::judge::rule_fault;
 use rules::lines::split_line;
 use rules::plain::rule_end;

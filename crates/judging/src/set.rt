@@ -15,7 +15,7 @@ use rules::Index;
 use rules::SetHeading;
 use rules::Split;
 use rules::Tally;
-use rules::check::fence_behind;
+use rules::lines::fence_behind;
 use rules::lines::split_line;
 use rules::sets::read_set;
 use rules::sets::word;

@@ -16,7 +16,7 @@ use Rattle.profile.specs.Splitting.{FieldEnd}
 use Rattle.profile.specs.Refusals.{profileRefusals}
 use Rattle.profile.specs.Places.{mostValues, valueAt, Placed, ValuesOf}
 use Rattle.profile.proofs.Counts.{few-layouts}
-use Rattle.profile.proofs.Listing.{options-field, options-none}
+use Rattle.profile.proofs.OptionFields.{options-field, options-none}
 use Rattle.rules.specs.declared.Column.{Column}
 use Rattle.rules.specs.declared.Column.the-variants as column
 use Rattle.rules.specs.Words.{hasDollar, isStar}

@@ -1,8 +1,7 @@
 pub mod Options
 pub mod Numbers
 pub mod Splitting
-pub mod Bounds
 pub mod Checking
-pub mod Listing
+pub mod OptionFields
 pub mod Refused
 pub mod Counts

@@ -1,7 +1,7 @@
 -- A text read field by field.
 use Prim.Native.Nat.{ℕ, zero, suc, _+_, _-_, _≤_, _<_}
 use native.Mathlib.Omega.{arith}
-use mathlib.Core.Path.{_≡_, refl, sym, ap, _∙_}
+use mathlib.Core.Path.{_≡_, refl, ap, _∙_}
 use mathlib.Core.List.{List, [], _∷_, _++_}
 use mathlib.Core.Bool.{Bool, true, false, cond}
 use lib.Dec.{eqb}
@@ -162,10 +162,3 @@ module _ (s : Text) (k : ℕ) where
           high = omega arith;
           rest = v .rest ∙ rw (f .split, getD-suc (part s start e) (behind (drop e s)) left h, drop-at s e l, behind-cons);
         }
-
-    pub passed-last : 0 < left → length s ≤ e → [] ≡ getD (fields s) k []
-    passed-last h l =
-        sym (v .rest ∙ rw (f .split, getD-suc (part s start e) (behind (drop e s)) left h, drop-of-length-le s l, behind-nil, getD-nil (left - 1)))
-
-    pub passed-end : left ≡ 0 → part s start e ≡ getD (fields s) k []
-    passed-end h = sym (v .rest ∙ rw (h, f .split))

@@ -1,4 +1,4 @@
-// The four texts of a profile: refusals 1 and 2, the fields of a text, and the options in a table.
+// The four texts of a profile: refusals 1 and 2, and the fields of a text.
 ghost use mathlib.Core.Path.{_≡_};
 ghost use Rattle.text.specs.Refusals.{firstRefusal};
 ghost use Rattle.profile.specs.Profile.{textsOf};
@@ -6,7 +6,6 @@ ghost use Rattle.profile.specs.Refusals.{profileRefusals};
 
 pub mod fields;
 pub mod limits;
-pub mod table;
 
 // A refusal: its number and its place.
 fn refusal(number: usize, place: usize) -> text::Refusal
@@ -39,7 +38,7 @@ pub fn check(model: &[u8], layouts: &[u8], variants: &[u8], options: &[u8]) -> t
     if n < fields::field_count(variants) {
         return refusal(2, 3);
     }
-    if 64 < table::option_count(options) {
+    if 64 < fields::option_count(options) {
         return refusal(2, 4);
     }
     refusal(0, 0)

@@ -21,7 +21,7 @@ use Rattle.values.specs.Spread.{isSign, signed, cuts, endsAll, stem, copy, copi
 use Rattle.values.specs.Values.{choose, valueOf, pieceText, filled}
 use Rattle.answers.specs.Answer.{textsFrom, tenTexts, sum, joined, total, noRoom, refusals, firstOf, answer, Answer, refused, accepted, numberOf, placeOf}
 use Rattle.answers.specs.Components.{valuesOf, base, additions}
-use Rattle.answers.specs.Firings.{fired, ruleFires, setFires, headFires, firings, fileFirings}
+use Rattle.answers.specs.Firings.{fired, ruleFires, firesAt, setFires, ruleByRule, headFires, firings, fileFirings}
 use Rattle.answers.specs.Layouts.{layoutsAt, perLayout, layoutsOf}
 use Rattle.answers.specs.Matching.{members, wordMatches, valueMatches, columnMatches, ruleMatches, isOptions}
 
@@ -105,5 +105,5 @@ examples =
     program ∷ []
 
 pub checked : map resolved examples ≡ map (λ e. e .wanted) examples
-unfolding examples symbols within layouts word program profile resolved outcome pairs bytes same empty first rest allOf anyOf concatMap run words heading feeds inside linesOf lines endsLine classOf step marks refusedIf refusedAs badByte tooLong wordsFault push fields dropEmpty optionsOf profileOf layoutCount outside longField badText textRefusals countRefusals profileRefusals before after setShape setEntry groupEntry headingEntry ruleEntry entryOf defined withGroup leftWords rightWords ruleShape shapeFault ruleFault orphans headFaults faults lineFaults fileRefusals decimal upFrom numberedIn indexOf leftItem componentOf columnsIn indexesIn columnNumber indexNumber knownIndex knownItem distinct alike firstIndex headingOf goodItems hasWord whichOf variableOf whichLength variableLength isPrefix inParens pieceAfter pieceLength pieces badWhich badVariable badPiece malformed addEntry sections isEquals isStar hasDollar ordinary isGroupName leftWord isSign signed cuts endsAll stem copy copies spread expanded choose valueOf pieceText filled textsFrom tenTexts sum joined total noRoom refusals firstOf answer numberOf placeOf valuesOf base additions fired ruleFires setFires headFires firings fileFirings layoutsAt perLayout layoutsOf members wordMatches valueMatches columnMatches ruleMatches isOptions
+unfolding examples symbols within layouts word program profile resolved outcome pairs bytes same empty first rest allOf anyOf concatMap run words heading feeds inside linesOf lines endsLine classOf step marks refusedIf refusedAs badByte tooLong wordsFault push fields dropEmpty optionsOf profileOf layoutCount outside longField badText textRefusals countRefusals profileRefusals before after setShape setEntry groupEntry headingEntry ruleEntry entryOf defined withGroup leftWords rightWords ruleShape shapeFault ruleFault orphans headFaults faults lineFaults fileRefusals decimal upFrom numberedIn indexOf leftItem componentOf columnsIn indexesIn columnNumber indexNumber knownIndex knownItem distinct alike firstIndex headingOf goodItems hasWord whichOf variableOf whichLength variableLength isPrefix inParens pieceAfter pieceLength pieces badWhich badVariable badPiece malformed addEntry sections isEquals isStar hasDollar ordinary isGroupName leftWord isSign signed cuts endsAll stem copy copies spread expanded choose valueOf pieceText filled textsFrom tenTexts sum joined total noRoom refusals firstOf answer numberOf placeOf valuesOf base additions fired ruleFires firesAt setFires ruleByRule headFires firings fileFirings layoutsAt perLayout layoutsOf members wordMatches valueMatches columnMatches ruleMatches isOptions
 checked = refl

@@ -21,11 +21,12 @@ use Rattle.values.specs.Filling.{mostPerByte}
 use Rattle.firing.specs.declared.Cursors.{Cursors}
 use Rattle.firing.specs.Writing.{Low, runBuf, runCur}
 use Rattle.firing.specs.Line.{Fires}
-use Rattle.matching.specs.Held.{SetSized}
+use Rattle.rules.specs.Held.{SetSized}
 use Rattle.names.specs.declared.Held.{Held}
+use Rattle.answers.specs.Firings.{fileFirings}
 use Rattle.reading.specs.declared.Reading.{Reading}
 use Rattle.reading.specs.declared.FileRead.{FileRead}
-use Rattle.reading.specs.Order.{firingsFrom, fileFirings}
+use Rattle.reading.specs.Order.{firingsFrom}
 use Rattle.reading.specs.Owed.{Kept, owed}
 use Rattle.reading.specs.Opening.{closedSet}
 use Rattle.reading.specs.Keeping.{mostPlaces}

@@ -24,9 +24,9 @@ use Rattle.rules.specs.Faults.{Group, Groups, defined}
 use Rattle.rules.specs.Checking.{lineOf, noHeading, presentOf, lineFault, presentAfter, namesAfter, checkFrom}
 use Rattle.rules.proofs.CheckSteps.{check-cons}
 use Rattle.answers.specs.Matching.{members}
-use Rattle.answers.specs.Firings.{Firing}
+use Rattle.answers.specs.Firings.{Firing, headFires}
 use Rattle.reading.specs.declared.OpenSet.{OpenSet}
-use Rattle.reading.specs.Order.{headFires, rulesFrom, firingsFrom}
+use Rattle.reading.specs.Order.{rulesFrom, firingsFrom}
 use Rattle.reading.specs.Owed.{Kept, AllWanted, setOwes, owed, keptFires}
 use Rattle.reading.proofs.LineFires.{nextRules, rules-line, rules-none, nextFirings, firings-line, firings-none}
 use Rattle.reading.proofs.Owing.{owes-end}

@@ -22,8 +22,8 @@ use Rattle.firing.specs.declared.Cursors.{Cursors}
 use Rattle.firing.specs.Writing.{runBuf, runCur, Low, FiredRule}
 use Rattle.firing.specs.Line.{Fires, RightWords}
 use Rattle.firing.proofs.Going.{Going, going-start, going-more, going-end}
-use Rattle.matching.specs.Held.{headingBy, SetSized}
-use Rattle.matching.proofs.HeldHeadings.{components-are}
+use Rattle.rules.specs.Held.{headingBy, SetSized}
+use Rattle.rules.proofs.HeldHeadings.{components-are}
 use Rattle.reading.specs.declared.OpenSet.{OpenSet}
 use Rattle.reading.specs.Owed.{layoutsIn}
 use Rattle.reading.specs.Seeking.{PlaceAt}

@@ -11,13 +11,13 @@ use Rattle.profile.specs.Places.{profileAt, ValuesOf}
 use Rattle.rules.specs.Faults.{rightWords}
 use Rattle.values.specs.Spread.{expanded}
 use Rattle.values.proofs.Places.{placed-expanded}
-use Rattle.answers.specs.Firings.{Firing, fired, ruleFires}
+use Rattle.answers.specs.Firings.{Firing, fired, ruleFires, firesAt}
 use Rattle.bitsets.specs.Sets.{isIn}
 use Rattle.firing.specs.declared.Cursors.{Cursors}
 use Rattle.firing.specs.Writing.{runBuf, runCur}
-use Rattle.matching.specs.Held.{headingBy}
+use Rattle.rules.specs.Held.{headingBy}
 use Rattle.reading.specs.declared.OpenSet.{OpenSet}
-use Rattle.reading.specs.Owed.{Kept, layoutsIn, firesAt, keptFires}
+use Rattle.reading.specs.Owed.{Kept, layoutsIn, keptFires}
 use Rattle.reading.specs.Keeping.{placeFires, KeptFired}
 use Rattle.reading.proofs.Owing.{each-same}
 

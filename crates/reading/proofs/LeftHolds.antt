@@ -15,7 +15,7 @@ use Rattle.answers.specs.Layouts.{perLayout}
 use Rattle.bitsets.specs.Sets.{isIn}
 use Rattle.bitsets.proofs.Bits.{in-none}
 use borrow.Author.Tests.{ne-eqb}
-use Rattle.matching.specs.Held.{columnBy}
+use Rattle.rules.specs.Held.{columnBy}
 use Rattle.names.specs.declared.Row.{Row}
 use Rattle.names.specs.Rows.{Question, Level, says, Tells}
 use Rattle.names.specs.Compiled.{Compiled, Rowed}

@@ -13,3 +13,4 @@ pub mod GroupHeads
 pub mod Parts
 pub mod FileReads
 pub mod ProfileReads
+pub mod LayoutRange

@@ -9,8 +9,8 @@ use Rattle.rules.specs.Entries.{Entry, ignored, wrong, group, set, rule, entryO
 use Rattle.rules.specs.Sections.{Rule, applies, Sections, addEntry, sections}
 use Rattle.rules.specs.Faults.{Groups, withGroup}
 use Rattle.rules.proofs.Shifted.{sections-cons, sections-nil}
-use Rattle.answers.specs.Firings.{Firing}
-use Rattle.reading.specs.Order.{headFires, firings, fileFirings, rulesFrom, firingsFrom}
+use Rattle.answers.specs.Firings.{Firing, fileFirings, firings, headFires}
+use Rattle.reading.specs.Order.{rulesFrom, firingsFrom}
 
 -- the rules ahead of a line, up to the next heading
 unfoldable pub nextRules : ℕ → Entry → List Line → List Rule

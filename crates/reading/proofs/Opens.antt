@@ -17,15 +17,13 @@ use Rattle.rules.specs.Faults.{Groups}
 use Rattle.rules.specs.Checking.{presentOf, presentBy}
 use Rattle.answers.specs.Matching.{members, isOptions}
 use Rattle.answers.specs.Layouts.{layoutsOf, perLayout}
-use Rattle.answers.specs.Firings.{Firing, setFires, ruleByRule}
+use Rattle.answers.specs.Firings.{Firing, setFires, ruleByRule, headFires}
 use Rattle.bitsets.specs.Sets.{isIn, Spans}
-use Rattle.matching.specs.declared.Range.{Range}
-use Rattle.matching.specs.Held.{headingBy, SetSized}
-use Rattle.matching.specs.Ranges.{FromOne}
-use Rattle.matching.proofs.HeldHeadings.{columns-length, components-length}
-use Rattle.matching.proofs.LayoutRange.{range-within, range-single}
+use Rattle.reading.specs.declared.Range.{Range}
+use Rattle.rules.specs.Held.{headingBy, SetSized, FromOne}
+use Rattle.rules.proofs.HeldHeadings.{columns-length, components-length}
+use Rattle.reading.proofs.LayoutRange.{range-within, range-single}
 use Rattle.reading.specs.declared.OpenSet.{OpenSet}
-use Rattle.reading.specs.Order.{headFires}
 use Rattle.reading.specs.Owed.{Kept, AllWanted, owedAt, setOwes}
 use Rattle.reading.specs.Seeking.{SetOpen}
 use Rattle.reading.specs.Keeping.{mostPlaces}
@@ -48,7 +46,7 @@ owes-nothing look p pr h kept rs = refl
 
 head-is : (gs : Groups) (p : Profile) (h : Heading) (rs : List Rule) → headFires gs p (applies h) rs ≡
     cond (anyOf isOptions (h .columns)) (ruleByRule (members gs) p h (layoutsOf (layoutCount p) h) rs)
-    (concatMap (λ k. setFires false (members gs) p h k rs) (layoutsOf (layoutCount p) h))
+    (concatMap (λ k. setFires (members gs) p h k rs) (layoutsOf (layoutCount p) h))
 unfolding headFires
 head-is gs p h rs = refl
 
@@ -126,7 +124,7 @@ module _ (h : SetHeading) (n : ℕ) (sized : SetSized h) (one : FromOne (h .inde
               let s : upFrom (r .count) (r .first) ≡ layoutsOf (layoutCount q) (headingBy h) = is ∙ ap (λ (i : ℕ). layoutsOf i (headingBy h)) (sym c) in
               rw (
                 v,
-                each-same (owedAt (members gs) q (headingBy h) w kept rs) (λ k. setFires false (members gs) q (headingBy h) k rs) (r .count) (r .first)
+                each-same (owedAt (members gs) q (headingBy h) w kept rs) (λ k. setFires (members gs) q (headingBy h) k rs) (r .count) (r .first)
                     (λ k a b. rw (u .inside k a b) refl),
                 s,
               )

@@ -14,12 +14,12 @@ use Rattle.rules.specs.Sections.{Rule, applies}
 use Rattle.rules.specs.Faults.{Groups, rightWords}
 use Rattle.answers.specs.Matching.{members, isOptions, ruleMatches}
 use Rattle.answers.specs.Layouts.{layoutsOf}
-use Rattle.answers.specs.Firings.{Firing, ruleFires, setFires, ruleByRule}
+use Rattle.answers.specs.Firings.{Firing, ruleFires, setFires, ruleByRule, firesAt, headFires}
 use Rattle.bitsets.specs.Sets.{isIn}
-use Rattle.matching.specs.Held.{headingBy}
+use Rattle.rules.specs.Held.{headingBy}
 use Rattle.reading.specs.declared.OpenSet.{OpenSet}
-use Rattle.reading.specs.Order.{headFires, rulesFrom, firingsFrom}
-use Rattle.reading.specs.Owed.{Kept, AllWanted, wanting, keeping, layoutsIn, firesAt, owedAt, setOwes, owed, keptFires}
+use Rattle.reading.specs.Order.{rulesFrom, firingsFrom}
+use Rattle.reading.specs.Owed.{Kept, AllWanted, wanting, keeping, layoutsIn, owedAt, setOwes, owed, keptFires}
 use Rattle.reading.proofs.LineFires.{nextRules, rules-line, rules-none, nextFirings, firings-line}
 
 -- two functions that are equal at each number of a range
@@ -34,19 +34,14 @@ unfolding concatMap upFrom
 each-none f zero k h = refl
 each-none f (suc n) k h = rw (h k (omega arith) (omega arith), each-none f n (k + 1) (λ j a b. h j (omega arith) (omega arith))) refl
 
-fires-none : (look : Text → Words) (p : Profile) (h : Heading) (k : ℕ) → setFires false look p h k [] ≡ []
+fires-none : (look : Text → Words) (p : Profile) (h : Heading) (k : ℕ) → setFires look p h k [] ≡ []
 unfolding setFires
 fires-none look p h k = refl
 
-fires-cons : (look : Text → Words) (p : Profile) (h : Heading) (k : ℕ) (r : Rule) (rs : List Rule) → setFires false look p h k (r ∷ rs) ≡
-    cond (ruleMatches look p k (h .columns) (r .text)) (firesAt p h r k) (setFires false look p h k rs)
-unfolding setFires firesAt
-fires-cons look p h k r rs = go (ruleMatches look p k (h .columns) (r .text))
-  where
-    go : (t : Bool) → cond t (ruleFires p (r .number) k (h .components) (rightWords h (r .text)) ++ []) (setFires false look p h k rs)
-        ≡ cond t (ruleFires p (r .number) k (h .components) (rightWords h (r .text))) (setFires false look p h k rs)
-    go true = append-nil (ruleFires p (r .number) k (h .components) (rightWords h (r .text)))
-    go false = refl
+fires-cons : (look : Text → Words) (p : Profile) (h : Heading) (k : ℕ) (r : Rule) (rs : List Rule) → setFires look p h k (r ∷ rs) ≡
+    cond (ruleMatches look p k (h .columns) (r .text)) (firesAt p h r k) (setFires look p h k rs)
+unfolding setFires
+fires-cons look p h k r rs = refl
 
 every-none : (look : Text → Words) (p : Profile) (h : Heading) (ks : List ℕ) → ruleByRule look p h ks [] ≡ []
 unfolding ruleByRule
@@ -54,7 +49,7 @@ every-none look p h ks = refl
 
 every-cons : (look : Text → Words) (p : Profile) (h : Heading) (ks : List ℕ) (r : Rule) (rs : List Rule) → ruleByRule look p h ks (r ∷ rs) ≡
     concatMap (λ k. cond (ruleMatches look p k (h .columns) (r .text)) (firesAt p h r k) []) ks ++ ruleByRule look p h ks rs
-unfolding ruleByRule firesAt
+unfolding ruleByRule
 every-cons look p h ks r rs = refl
 
 -- one layout: x whether it wants a rule, t whether the rule matches
@@ -106,7 +101,7 @@ module _ (look : Text → Words) (p : Profile) (o : OpenSet) (kept : Kept) where
           let z : matchesAt r k ≡ false = rw (w .all e k a b) at (m k a b) in rw z refl)) refl
       go false e =
           each-same _ _ (o .count) (o .first) (λ k a b.
-          rw (fires-cons look p h k r rs) (step-miss (firesAt p h r k) (setFires false look p h k rs) (firesAt p h (kept k) k) (isIn k (o .wanted)) (matchesAt r k) (m k a b)))
+          rw (fires-cons look p h k r rs) (step-miss (firesAt p h r k) (setFires look p h k rs) (firesAt p h (kept k) k) (isIn k (o .wanted)) (matchesAt r k) (m k a b)))
 
   module _ (r : Rule) (rs : List Rule) (m w : ℕ)
       (is : (k : ℕ) → o .first ≤ k → k < o .first + o .count → isIn k m ≡ (isIn k (o .wanted) && matchesAt r k))
@@ -118,7 +113,7 @@ module _ (look : Text → Words) (p : Profile) (o : OpenSet) (kept : Kept) where
         rw e
         (each-same _ _ (o .count) (o .first) (λ k a b.
         rw (fires-cons look p h k r rs, out k, is k a b, at-cond p h (isIn k (o .wanted) && matchesAt r k) r (kept k) k)
-        (step-hit (firesAt p h r k) (setFires false look p h k rs) (firesAt p h (kept k) k) (isIn k (o .wanted)) (matchesAt r k))))
+        (step-hit (firesAt p h r k) (setFires look p h k rs) (firesAt p h (kept k) k) (isIn k (o .wanted)) (matchesAt r k))))
 
     -- each matching rule fires at once
     pub owes-fire : o .every ≡ true → AllWanted o → setOwes look p o kept (r ∷ rs) ≡ keptFires p (wanting o w) (keeping m r kept) ++ setOwes look p o kept rs

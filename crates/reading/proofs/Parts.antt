@@ -10,7 +10,7 @@ use Rattle.profile.specs.Places.{profileAt}
 use Rattle.firing.specs.declared.Cursors.{Cursors}
 use Rattle.firing.specs.Line.{Fires}
 use Rattle.names.proofs.Defining.{whole}
-use Rattle.matching.specs.Held.{SetSized}
+use Rattle.rules.specs.Held.{SetSized}
 use Rattle.reading.specs.declared.OpenSet.{OpenSet}
 use Rattle.reading.specs.declared.Sought.{Sought}
 use Rattle.reading.specs.declared.Reading.{Reading}

@@ -25,7 +25,7 @@ use Rattle.rules.proofs.LineChecks.{form-is}
 use Rattle.answers.specs.Matching.{members, ruleMatches}
 use Rattle.answers.specs.Firings.{Firing}
 use Rattle.bitsets.specs.Sets.{isIn}
-use Rattle.matching.specs.Held.{headingBy}
+use Rattle.rules.specs.Held.{headingBy}
 use Rattle.reading.specs.declared.OpenSet.{OpenSet}
 use Rattle.reading.specs.Order.{rulesFrom, firingsFrom}
 use Rattle.reading.specs.Owed.{Kept, AllWanted, wanting, keeping, setOwes, owed, keptFires}

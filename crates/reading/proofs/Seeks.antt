@@ -24,8 +24,8 @@ use Rattle.answers.specs.Layouts.{perLayout}
 use Rattle.answers.specs.Matching.{members, columnMatches, ruleMatches}
 use Rattle.bitsets.specs.Sets.{isIn}
 use Rattle.bitsets.proofs.Bits.{in-none}
-use Rattle.matching.specs.Held.{columnBy, headingBy, SetSized}
-use Rattle.matching.proofs.HeldHeadings.{columns-length, components-length, column-at}
+use Rattle.rules.specs.Held.{columnBy, headingBy, SetSized}
+use Rattle.rules.proofs.HeldHeadings.{columns-length, components-length, column-at}
 use Rattle.names.specs.Rows.{Question, asks}
 use Rattle.names.specs.Ready.{Ready}
 use Rattle.names.proofs.Rows.{asks-level}

@@ -18,13 +18,13 @@ use Rattle.rules.proofs.CheckSteps.{entry-any}
 use Rattle.answers.specs.Matching.{members}
 use Rattle.firing.specs.declared.Cursors.{Cursors}
 use Rattle.firing.specs.Writing.{runBuf, runCur}
-use Rattle.matching.specs.Held.{headingBy, SetSized}
-use Rattle.matching.specs.Ranges.{FromOne}
+use Rattle.rules.specs.Held.{headingBy, SetSized, FromOne}
 use Rattle.judging.specs.declared.SetLine.{SetLine}
 use Rattle.judging.specs.Sets.{SetLineOf}
+use Rattle.answers.specs.Firings.{headFires}
 use Rattle.reading.specs.declared.OpenSet.{OpenSet}
 use Rattle.reading.specs.declared.Reading.{Reading}
-use Rattle.reading.specs.Order.{headFires, rulesFrom, firingsFrom}
+use Rattle.reading.specs.Order.{rulesFrom, firingsFrom}
 use Rattle.reading.specs.Owed.{Kept, setOwes, owed}
 use Rattle.reading.specs.Keeping.{KeptPlaces}
 use Rattle.reading.specs.Opening.{closedSet, Opened}

@@ -19,18 +19,18 @@ use Rattle.rules.specs.Sections.{Rule}
 use Rattle.rules.specs.Faults.{Groups, rightWords, lineFaults}
 use Rattle.rules.specs.Checking.{lineOf, checkFrom}
 use Rattle.answers.specs.Matching.{members}
-use Rattle.answers.specs.Firings.{Firing}
+use Rattle.answers.specs.Firings.{Firing, fileFirings}
 use Rattle.bitsets.specs.Sets.{isIn}
 use Rattle.firing.specs.declared.Cursors.{Cursors}
 use Rattle.firing.specs.Writing.{Low, runBuf, runCur}
 use Rattle.firing.specs.Line.{Fires}
 use Rattle.firing.proofs.Written.{buf-append, cur-append, length-run, run-buf-nil, run-cur-nil}
 use Rattle.firing.proofs.Going.{low-run}
-use Rattle.matching.specs.Held.{headingBy, SetSized}
+use Rattle.rules.specs.Held.{headingBy, SetSized}
 use Rattle.reading.specs.declared.OpenSet.{OpenSet}
 use Rattle.reading.specs.declared.Reading.{Reading}
 use Rattle.reading.specs.declared.Sought.the-variants as sought
-use Rattle.reading.specs.Order.{rulesFrom, firingsFrom, fileFirings}
+use Rattle.reading.specs.Order.{rulesFrom, firingsFrom}
 use Rattle.reading.specs.Owed.{Kept, wanting, keeping, layoutsIn, setOwes, owed, keptFires}
 use Rattle.reading.specs.Seeking.{SetOpen, Without, PlaceAt, PassedOver, RuleFound, Seeks}
 use Rattle.reading.specs.Keeping.{mostPlaces, Noted, KeptPlaces, placeFires, KeptFired}

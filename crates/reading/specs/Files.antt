@@ -14,13 +14,13 @@ use Rattle.rules.specs.Faults.{lineFaults}
 use Rattle.rules.specs.Checking.{noHeading}
 use Rattle.firing.specs.declared.Cursors.{Cursors}
 use Rattle.firing.specs.Writing.{runBuf, runCur}
-use Rattle.matching.specs.Held.{SetSized}
+use Rattle.rules.specs.Held.{SetSized}
 use Rattle.names.specs.declared.Held.{Held}
 use Rattle.names.specs.Compiled.{Tables}
 use Rattle.names.specs.Ready.{Ready}
+use Rattle.answers.specs.Firings.{fileFirings}
 use Rattle.reading.specs.declared.Reading.{Reading}
 use Rattle.reading.specs.declared.FileRead.{FileRead}
-use Rattle.reading.specs.Order.{fileFirings}
 use Rattle.reading.specs.Opening.{closedSet}
 use Rattle.reading.specs.Keeping.{mostPlaces}
 

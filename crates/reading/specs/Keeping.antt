@@ -11,7 +11,7 @@ use Rattle.answers.specs.Firings.{Firing, ruleFires}
 use Rattle.bitsets.specs.Sets.{isIn}
 use Rattle.firing.specs.declared.Cursors.{Cursors}
 use Rattle.firing.specs.Writing.{runBuf, runCur}
-use Rattle.matching.specs.Held.{headingBy}
+use Rattle.rules.specs.Held.{headingBy}
 use Rattle.reading.specs.declared.OpenSet.{OpenSet}
 use Rattle.reading.specs.Owed.{layoutsIn}
 use Rattle.reading.specs.Seeking.{PlaceAt}

@@ -11,9 +11,9 @@ use Rattle.rules.specs.Faults.{Groups}
 use Rattle.rules.specs.Checking.{presentOf}
 use Rattle.answers.specs.Matching.{members}
 use Rattle.bitsets.specs.Sets.{isIn}
-use Rattle.matching.specs.Held.{headingBy}
+use Rattle.rules.specs.Held.{headingBy}
+use Rattle.answers.specs.Firings.{headFires}
 use Rattle.reading.specs.declared.OpenSet.{OpenSet}
-use Rattle.reading.specs.Order.{headFires}
 use Rattle.reading.specs.Owed.{Kept, setOwes}
 use Rattle.reading.specs.Seeking.{SetOpen}
 use Rattle.reading.specs.Keeping.{mostPlaces}

@@ -8,11 +8,11 @@ use Rattle.text.specs.Lines.{Line}
 use Rattle.profile.specs.Profile.{Profile}
 use Rattle.rules.specs.Headings.{Heading, upFrom}
 use Rattle.rules.specs.Sections.{Rule}
-use Rattle.rules.specs.Faults.{Groups, rightWords}
+use Rattle.rules.specs.Faults.{Groups}
 use Rattle.answers.specs.Matching.{members}
-use Rattle.answers.specs.Firings.{Firing, ruleFires, setFires, ruleByRule}
+use Rattle.answers.specs.Firings.{Firing, firesAt, setFires, ruleByRule}
 use Rattle.bitsets.specs.Sets.{isIn}
-use Rattle.matching.specs.Held.{headingBy}
+use Rattle.rules.specs.Held.{headingBy}
 use Rattle.reading.specs.declared.OpenSet.{OpenSet}
 use Rattle.reading.specs.Order.{rulesFrom, firingsFrom}
 
@@ -23,13 +23,9 @@ Kept = ℕ → Rule
 abbrev pub layoutsIn : OpenSet → List ℕ
 layoutsIn o = upFrom (o .count) (o .first)
 
--- a rule fired at a layout
-unfoldable pub firesAt : Profile → Heading → Rule → ℕ → List Firing
-firesAt p h r k = ruleFires p (r .number) k (h .components) (rightWords h (r .text))
-
 -- at a layout that still wants a rule: what the rules from here on fire; at any other: what the kept rule fires
 unfoldable pub owedAt : (Text → Words) → Profile → Heading → ℕ → Kept → List Rule → ℕ → List Firing
-owedAt look p h wanted kept rs k = cond (isIn k wanted) (setFires false look p h k rs) (firesAt p h (kept k) k)
+owedAt look p h wanted kept rs k = cond (isIn k wanted) (setFires look p h k rs) (firesAt p h (kept k) k)
 
 -- what the set still fires
 unfoldable pub setOwes : (Text → Words) → Profile → OpenSet → Kept → List Rule → List Firing

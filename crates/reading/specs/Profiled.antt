@@ -8,8 +8,8 @@ use Rattle.text.specs.Refusals.{firstRefusal}
 use Rattle.profile.specs.Profile.{Texts, profileOf}
 use Rattle.rules.specs.Faults.{lineFaults}
 use Rattle.firing.specs.Writing.{startingAt, runBuf, runCur}
+use Rattle.answers.specs.Firings.{fileFirings}
 use Rattle.reading.specs.declared.FileRead.{FileRead}
-use Rattle.reading.specs.Order.{fileFirings}
 
 -- the first refusal of the lines; and where there is none, all that fires is written from ten positions on
 pub record ReadFor (s : Text) (x : Texts) (w w′ : Text) (at : List ℕ) (r : FileRead) : Type 0 where

@@ -15,7 +15,7 @@ use Rattle.rules.specs.Checking.{presentOf, checkFrom}
 use Rattle.answers.specs.Layouts.{perLayout}
 use Rattle.bitsets.specs.Sets.{isIn}
 use Rattle.firing.specs.Writing.{ShortWords}
-use Rattle.matching.specs.Held.{headingBy, SetSized}
+use Rattle.rules.specs.Held.{headingBy, SetSized}
 use Rattle.names.specs.Ready.{Ready}
 use Rattle.reading.specs.declared.OpenSet.{OpenSet}
 use Rattle.reading.specs.declared.Sought.{Sought}

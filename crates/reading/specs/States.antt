@@ -17,11 +17,11 @@ use Rattle.bitsets.specs.Sets.{isIn}
 use Rattle.firing.specs.declared.Cursors.{Cursors}
 use Rattle.firing.specs.Writing.{Low, runBuf, runCur}
 use Rattle.firing.specs.Line.{Fires}
-use Rattle.matching.specs.Held.{headingBy}
+use Rattle.rules.specs.Held.{headingBy}
 use Rattle.names.specs.Compiled.{Tables}
 use Rattle.names.specs.Ready.{Ready}
+use Rattle.answers.specs.Firings.{fileFirings}
 use Rattle.reading.specs.declared.Reading.{Reading}
-use Rattle.reading.specs.Order.{fileFirings}
 use Rattle.reading.specs.Owed.{Kept, owed}
 use Rattle.reading.specs.Seeking.{SetOpen}
 use Rattle.reading.specs.Keeping.{KeptPlaces}

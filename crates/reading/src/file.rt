@@ -8,7 +8,7 @@ ghost use Rattle.reading.specs.States.{Sound};
 ghost use Rattle.reading.specs.Steps.{Stepped};
 ghost use Rattle.output.specs.Store.{farthest};
 ghost use Rattle.firing.specs.Writing.{Low};
-ghost use Rattle.matching.specs.Held.{SetSized};
+ghost use Rattle.rules.specs.Held.{SetSized};
 ghost use Rattle.reading.specs.Files.{Started, NamesStart, FileReadOf};
 use super::FileRead;
 use super::OpenSet;
@@ -28,7 +28,7 @@ use firing::Cursors;
 use names::Held;
 use rules::Index;
 use rules::SetHeading;
-use rules::check::NO_HEADING;
+use rules::NO_HEADING;
 use text::reader::fence_of;
 use text::table::TABLE;
 

@@ -19,7 +19,7 @@ use judging::group::first_word;
 use judging::group::group_line;
 use judging::set::set_line;
 use names::define::define_group;
-use rules::check::NO_HEADING;
+use rules::NO_HEADING;
 
 // The heading of a set, whose words begin at `from`.
 fn read_set(s: &[u8], t: &[u8; 512], z: Setting, r: Reading, from: usize, number: usize) -> Reading

@@ -5,7 +5,7 @@ ghost use lib.ListN.{length};
 ghost use Rattle.text.specs.Reading.{Within};
 ghost use Rattle.profile.specs.Places.{profileAt};
 ghost use Rattle.firing.specs.Line.{Fires};
-ghost use Rattle.matching.specs.Held.{SetSized};
+ghost use Rattle.rules.specs.Held.{SetSized};
 ghost use Rattle.reading.specs.Keeping.{mostPlaces, Noted, KeptPlaces, KeptFired};
 use super::OpenSet;
 use super::Setting;

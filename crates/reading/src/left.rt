@@ -6,7 +6,7 @@ ghost use Rattle.text.specs.Reading.{Within};
 ghost use Rattle.bitsets.specs.Sets.{isIn};
 ghost use Rattle.listing.specs.Names.{Named};
 ghost use Rattle.names.specs.Rows.{says};
-ghost use Rattle.matching.specs.Held.{columnBy};
+ghost use Rattle.rules.specs.Held.{columnBy};
 ghost use Rattle.reading.specs.Left.{LeftHeld};
 use super::LeftWords;
 use bitsets::both;

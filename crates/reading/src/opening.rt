@@ -1,13 +1,12 @@
 // A set as its heading opens it.
 ghost use mathlib.Core.Path.{_≡_};
 ghost use Prim.Native.Nat.{_≤_};
-ghost use Rattle.matching.specs.Held.{SetSized};
-ghost use Rattle.matching.specs.Ranges.{FromOne};
+ghost use Rattle.rules.specs.Held.{SetSized, FromOne};
 ghost use Rattle.reading.specs.Opening.{closedSet, Opened};
 use super::OpenSet;
 use bitsets::span;
-use matching::ranges::has_options;
-use matching::ranges::layout_range;
+use super::ranges::has_options;
+use super::ranges::layout_range;
 use rules::Present;
 use rules::SetHeading;
 use rules::judge::present_by;

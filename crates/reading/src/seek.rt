@@ -4,7 +4,7 @@ ghost use Prim.Native.Nat.{_≤_};
 ghost use Rattle.text.specs.Reading.{Within};
 ghost use Rattle.listing.specs.Names.{Named};
 ghost use Rattle.rules.specs.Checking.{presentOf};
-ghost use Rattle.matching.specs.Held.{headingBy, SetSized};
+ghost use Rattle.rules.specs.Held.{headingBy, SetSized};
 ghost use Rattle.reading.specs.Seeking.{Seeks};
 use super::LeftWords;
 use super::OpenSet;

@@ -1,16 +1,2 @@
-pub mod LineFirings
-pub mod SetRuns
-pub mod SetLoops
-pub mod RangeLoops
-pub mod HeadingRuns
-pub mod Indexed
-pub mod SetLines
-pub mod Walks
-pub mod FileWalks
 pub mod Resolves
 pub mod Resolutions
-pub mod RuleLines
-pub mod HeadingLines
-pub mod HeadsFound
-pub mod GroupLines
-pub mod RuleSeeks

@@ -1,5 +1,5 @@
 -- The ways out of a resolve.
-use Prim.Native.Nat.{ℕ, _-_, _≤_}
+use Prim.Native.Nat.{ℕ, zero, suc, _-_, _≤_, _<_}
 use mathlib.Core.Path.{_≡_, refl, sym, ap, _∙_}
 use mathlib.Core.List.{List, [], _∷_, _++_, map}
 use mathlib.Core.Bool.{true, false}
@@ -7,31 +7,25 @@ use lib.ListN.{length, take}
 use lib.Seq.{length-take-le}
 use lib.Dec.{leb, ltb}
 use native.Mathlib.Omega.{arith}
-use borrow.Author.Tests.{leb-true}
+use borrow.Author.Tests.{leb-true, lt-ltb, le-ltb}
 use borrow.Rule.Slice.PartMut.{midOf, postOf}
 use Rattle.text.specs.declared.Refusal.{Refusal}
-use Rattle.text.specs.Limits.{longestText, longestFile, longestTotal, mostLayouts}
-use Rattle.text.specs.Bytes.{Text, allOf, anyOf}
+use Rattle.text.specs.Limits.{longestFile, longestTotal}
+use Rattle.text.specs.Bytes.{Text, allOf}
 use Rattle.text.specs.Refusals.{refusedIf, firstRefusal, isNumber, hasNumber}
-use Rattle.text.proofs.Lists.{and-both, neither, nil-left, nil-right}
-use Rattle.text.proofs.Numbers.{clear-if}
+use Rattle.text.proofs.Lists.{and-both, nil-left, nil-right}
 use Rattle.output.specs.Store.{farthest}
-use Rattle.profile.specs.Profile.{Texts, fields, textsOf, profileOf, layoutCount}
-use Rattle.profile.specs.Refusals.{outside, longField, badText, textRefusals, countRefusals, profileRefusals}
-use Rattle.profile.proofs.Counts as counted
+use Rattle.profile.specs.Profile.{Texts, profileOf}
+use Rattle.profile.specs.Refusals.{profileRefusals}
 use Rattle.profile.proofs.Numbers.{profile-numbers}
-use Rattle.rules.specs.declared.Checked.{Checked}
-use Rattle.rules.specs.Checking.{Checks}
 use Rattle.rules.specs.Faults.{lineFaults, fileRefusals}
-use Rattle.resolver.specs.Heads.{AllHeads, StagedListed}
-use Rattle.resolver.specs.declared.ListedAnswer.{ListedAnswer}
-use Rattle.rules.proofs.Numbers.{file-numbers}
-use Rattle.values.specs.Filling.{Short}
 use Rattle.answers.specs.declared.Outcome.{Outcome}
 use Rattle.answers.specs.Firings.{fileFirings}
 use Rattle.answers.specs.Answer.{tenTexts, sum, total, noRoom, refusals, Answer, refused, accepted, firstOf, answer, numberOf, placeOf, lengthsOf, outcome, bufferAfter, Answered}
 use Rattle.firing.specs.Writing.{startingAt, runBuf, Low, starts}
 use Rattle.firing.specs.Stage.{stageSize, regions, inRegions, textsAt, Staged}
+use Rattle.reading.specs.declared.FileRead.{FileRead}
+use Rattle.reading.specs.Profiled.{ReadFor}
 use Rattle.answers.proofs.Answers.{answered}
 use Rattle.firing.proofs.Measured.{low-starts, written-by}
 use Rattle.firing.proofs.Staged.{stage-texts}
@@ -50,48 +44,35 @@ unfolding firstRefusal firstOf
 refused-first [] more ts h = absurd (h refl)
 refused-first (r ∷ rs) more ts h = refl
 
--- What is known of the four texts where nothing is refused of them.
-
-short-fields : (t : Text) (fs : List Text) → badText t fs ≡ false → anyOf longField fs ≡ false
-unfolding badText
-short-fields t fs h = neither (anyOf outside t) (anyOf longField fs) (neither (ltb longestText (length t)) _ h .1) .1
-
-pub short : (m l v o : Text) → profileRefusals (textsOf m l v o) ≡ [] → Short m l v
-unfolding profileRefusals textRefusals anyOf
-short m l v o h =
-    let a = nil-left (textRefusals (textsOf m l v o)) (countRefusals (textsOf m l v o)) h in
-    let b = nil-right (refusedIf (badText m (m ∷ [])) 1 1) _ a in
-    let c = nil-right (refusedIf (badText l (fields l)) 1 2) _ b in
-    record {
-      model = neither (longField m) false (short-fields m (m ∷ []) (clear-if _ 1 1 (nil-left (refusedIf (badText m (m ∷ [])) 1 1) _ a))) .0;
-      layouts = short-fields l (fields l) (clear-if _ 1 2 (nil-left (refusedIf (badText l (fields l)) 1 2) _ b));
-      variants = short-fields v (fields v) (clear-if _ 1 3 (nil-left (refusedIf (badText v (fields v)) 1 3) _ c));
-    }
-
-pub some-layouts : (l : Text) (n : ℕ) → n ≡ length (fields l) → 1 ≤ n
-unfolding layoutCount profileOf
-some-layouts l n e = rw e (counted.some-layout (textsOf [] l [] []))
-
-pub few-layouts : (m l v o : Text) (n : ℕ) → profileRefusals (textsOf m l v o) ≡ [] → n ≡ length (fields l) → n ≤ 4
-unfolding layoutCount profileOf
-few-layouts m l v o n h e = rw e (counted.few-layouts (textsOf m l v o) h)
-
-pub few-fields : (m l v o : Text) → profileRefusals (textsOf m l v o) ≡ [] → (length (fields l) ≤ mostLayouts) × (length (fields v) ≤ mostLayouts)
-unfolding layoutCount profileOf
-few-fields m l v o h =
-    (counted.few-layouts (textsOf m l v o) h, omega (arith, counted.few-layouts (textsOf m l v o) h, counted.few-variants (textsOf m l v o) h))
-
 -- nothing is refused where the first refusal has number 0
 
 pub profile-clear : (t : Texts) (r : Refusal) → r ≡ firstRefusal (profileRefusals t) → r .number ≡ 0 → profileRefusals t ≡ []
 profile-clear t r e h = clear-first (profileRefusals t) (profile-numbers t) (sym (ap (λ (x : Refusal). x .number) e) ∙ h)
 
-pub file-clear : (f : Text) (r : Refusal) → r ≡ firstRefusal (fileRefusals f) → r .number ≡ 0 → fileRefusals f ≡ []
-file-clear f r e h = clear-first (fileRefusals f) (file-numbers f) (sym (ap (λ (x : Refusal). x .number) e) ∙ h)
+-- a file that is not too long is refused by its lines alone
+pub file-lines : (f : Text) → length f ≤ longestFile → fileRefusals f ≡ lineFaults f
+unfolding fileRefusals refusedIf
+file-lines f h = rw (le-ltb longestFile (length f) h) refl
+
+pub file-first : (f : Text) (r : Refusal) → length f ≤ longestFile → firstRefusal (lineFaults f) ≡ r → r ≡ firstRefusal (fileRefusals f)
+file-first f r h e = rw (file-lines f h) (sym e)
+
+pub file-long : (f : Text) → longestFile < length f → firstRefusal (fileRefusals f) ≡ record { number = 3; place = 0 }
+unfolding fileRefusals refusedIf firstRefusal
+file-long f h = rw (lt-ltb longestFile (length f) h) refl
 
 pub lines-clear : (f : Text) → fileRefusals f ≡ [] → lineFaults f ≡ []
 unfolding fileRefusals
 lines-clear f h = nil-right (refusedIf (ltb longestFile (length f)) 3 0) _ h
+
+-- an accepted file is read again without a refusal
+pub read-again : (f : Text) (t : Texts) (w w′ : Text) (at : List ℕ) (r : FileRead) → lineFaults f ≡ [] → ReadFor f t w w′ at r → r .number ≡ 0
+unfolding firstRefusal
+read-again f t w w′ at r e v = go (r .number) refl
+  where
+    go : (n : ℕ) → r .number ≡ n → n ≡ 0
+    go zero h = refl
+    go (suc n) h = absurd (omega (arith, h, ap (λ (x : Refusal). x .number) (sym (v .refused (λ z. omega (arith, h, z))) ∙ ap firstRefusal e)))
 
 -- the answer, by what the checks found
 module _ (room : ℕ) (f : Text) (t : Texts) where
@@ -117,30 +98,16 @@ module _ (room : ℕ) (f : Text) (t : Texts) where
 
 -- A refusal leaves no texts in a stage; an accepted answer leaves each text that is not too long for its region.
 module _ (room : ℕ) (f : Text) (t : Texts) (d : Text) where
-  staged-refused : (x : Outcome) (r : Refusal) → x ≡ outcome (refused r) → (r .number ≡ 0 → ⊥) → outcome (refused r) ≡ outcome (answer room f t) →
+  pub staged-refused : (x : Outcome) (r : Refusal) → x ≡ outcome (refused r) → (r .number ≡ 0 → ⊥) → outcome (refused r) ≡ outcome (answer room f t) →
       Staged room f t d x
   unfolding outcome numberOf
   staged-refused x r e h g = record { result = e ∙ g; texts = λ z. absurd (h (sym (ap (λ (y : Outcome). y .number) e) ∙ z)) }
 
-  staged-accepted : (d₀ : Text) (x : Outcome) → x ≡ outcome (answer room f t) → x .lengths ≡ map length (tenTexts f t) → length d₀ ≡ stageSize →
+  pub staged-accepted : (d₀ : Text) (x : Outcome) → x ≡ outcome (answer room f t) → x .lengths ≡ map length (tenTexts f t) → length d₀ ≡ stageSize →
       d ≡ runBuf d₀ (startingAt regions) (fileFirings f (profileOf t)) → Staged room f t d x
   unfolding tenTexts
   staged-accepted d₀ x e n l w =
       record { result = e; texts = λ z h. rw (n, w) (stage-texts (fileFirings f (profileOf t)) d₀ l (rw n at h)) }
-
--- the same, with the headings that the check listed
-pub heads-listed : (f t u : Text) (r : Checked) → Checks f t u r → r .refusal .number ≡ 0 → AllHeads f u (r .heads)
-heads-listed f t u r v z = record { heads = v .heads; all = v .all z }
-
-module _ (room : ℕ) (f : Text) (t : Texts) (d u : Text) where
-  pub listed-refused : (x : ListedAnswer) (r : Refusal) → x ≡ record { outcome = outcome (refused r); heads = 0 } → (r .number ≡ 0 → ⊥) →
-      outcome (refused r) ≡ outcome (answer room f t) → StagedListed room f t d u x
-  unfolding outcome numberOf
-  listed-refused x r e h g = rw e (record { staged = staged-refused room f t d (outcome (refused r)) r refl h g; heads = λ z. absurd (h z) })
-
-  pub listed-accepted : (d₀ : Text) (x : Outcome) → x ≡ outcome (answer room f t) → x .lengths ≡ map length (tenTexts f t) → length d₀ ≡ stageSize →
-      d ≡ runBuf d₀ (startingAt regions) (fileFirings f (profileOf t)) → (n : ℕ) → AllHeads f u n → StagedListed room f t d u (record { outcome = x; heads = n })
-  listed-accepted d₀ x e l z w n a = record { staged = staged-accepted room f t d d₀ x e l z w; heads = λ y. a }
 
 -- an answer with number 0 is accepted
 pub record Accepts (room : ℕ) (f : Text) (t : Texts) : Type 0 where

@@ -45,11 +45,6 @@ with-beside (bad k) gs g = refl
 with-beside (defines n ms) gs g = refl
 with-beside (applies h) gs g = refl
 
-pub after-beside : (gs g : Groups) (ss : List Section) → groupsAfter (gs ++ g) ss ≡ groupsAfter gs ss ++ g
-unfolding groupsAfter
-after-beside gs g [] = refl
-after-beside gs g (s ∷ ss) = rw with-beside (after-beside (withGroup (s .head) gs) g ss)
-
 with-length : (h : Head) (gs : Groups) → length gs ≤ length (withGroup h gs)
 unfolding withGroup
 with-length (bad k) gs = omega arith

@@ -10,10 +10,9 @@ pub mod LineByLine
 pub mod LineChecks
 pub mod WordLoops
 pub mod RuleFaults
-pub mod GroupNames
 pub mod LineKinds
 pub mod CheckSteps
 pub mod Listings
 pub mod Sides
-pub mod FileChecks
 pub mod PlainLines
+pub mod HeldHeadings

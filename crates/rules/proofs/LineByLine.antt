@@ -14,8 +14,7 @@ use Rattle.text.specs.Lines.{Line, lines}
 use Rattle.rules.specs.Headings.{Heading}
 use Rattle.rules.specs.Entries.{Entry, ignored, wrong, group, set, rule, entryOf}
 use Rattle.rules.specs.Sections.{Rule, addEntry, sections}
-use Rattle.rules.specs.Faults.{Groups, defined, withGroup, groupsAfter, ruleFault, orphans, headFaults, faults, lineFaults}
-use Rattle.rules.specs.Names.{groupsOf}
+use Rattle.rules.specs.Faults.{Groups, defined, withGroup, ruleFault, orphans, headFaults, faults, lineFaults}
 use Rattle.rules.proofs.Shifted.{sections-cons, sections-nil}
 
 -- a rule's refusal under the present heading, if there is one
@@ -79,33 +78,3 @@ unfolding lineFaults faultsFrom
 faults-start f = rw orphan-rules
 
 -- the groups that are defined from a line on
-
-unfoldable pub groupsFrom : Groups → List Line → Groups
-groupsFrom gs ls = groupsAfter gs (sections ls .1)
-
-unfoldable pub nextGroups : Groups → Entry → List Line → Groups
-nextGroups gs ignored ls = groupsFrom gs ls
-nextGroups gs (wrong k) ls = groupsFrom gs ls
-nextGroups gs (group g ms) ls = groupsFrom (record { name = g; members = ms } ∷ gs) ls
-nextGroups gs (set h) ls = groupsFrom gs ls
-nextGroups gs (rule ws) ls = groupsFrom gs ls
-
-add-groups : (gs : Groups) (n : ℕ) (e : Entry) (ls : List Line) → groupsAfter gs (addEntry n e (sections ls) .1) ≡ nextGroups gs e ls
-unfolding addEntry nextGroups groupsFrom groupsAfter withGroup
-add-groups gs n ignored ls = refl
-add-groups gs n (wrong k) ls = refl
-add-groups gs n (group g ms) ls = refl
-add-groups gs n (set h) ls = refl
-add-groups gs n (rule ws) ls = refl
-
-pub groups-line : (gs : Groups) (l : Line) (ls : List Line) → groupsFrom gs (l ∷ ls) ≡ nextGroups gs (entryOf l) ls
-unfolding groupsFrom
-groups-line gs l ls = rw (sections-cons l ls) (add-groups gs (l .number) (entryOf l) ls)
-
-pub groups-none : (gs : Groups) → groupsFrom gs [] ≡ gs
-unfolding groupsFrom groupsAfter
-groups-none gs = rw sections-nil
-
-pub groups-start : (f : Text) → groupsOf f ≡ groupsFrom [] (lines f)
-unfolding groupsOf groupsFrom
-groups-start f = refl

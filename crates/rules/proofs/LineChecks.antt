@@ -17,10 +17,9 @@ use Rattle.rules.specs.declared.Index.{Index}
 use Rattle.rules.specs.Headings.{Heading, hasWord}
 use Rattle.rules.specs.Entries.{Entry, ignored, wrong, group, set, rule, entryOf}
 use Rattle.rules.specs.Faults.{Groups, defined, ruleFault, lineFaults}
-use Rattle.rules.specs.Names.{definesOf}
-use Rattle.rules.specs.Checking.{noHeading, formOf, presentOf, presentFault, lineFault, presentAfter, namesAfter, checkFrom, namesFrom}
+use Rattle.rules.specs.Checking.{noHeading, formOf, presentOf, presentFault, lineFault, presentAfter, namesAfter, checkFrom}
 use Rattle.rules.proofs.Numbers.{goodEntry, entry-good}
-use Rattle.rules.proofs.LineByLine.{ruleFaults, faultsFrom, nextFaults, faults-line, faults-none, faults-start, groupsFrom, nextGroups, groups-line, groups-none, groups-start}
+use Rattle.rules.proofs.LineByLine.{ruleFaults, faultsFrom, nextFaults, faults-line, faults-none, faults-start}
 
 unfoldable pub presentBy : Option Heading → Present
 presentBy none = noHeading
@@ -93,21 +92,3 @@ unfolding presentBy
 lines-checked f = faults-start f ∙ faults-checked [] none (lines f)
 
 -- the names of the groups
-
-next-named : (gs : Groups) (e : Entry) (ls : List Line) → ((gs′ : Groups) → namesIn (groupsFrom gs′ ls) ≡ namesFrom (namesIn gs′) ls) →
-    namesIn (nextGroups gs e ls) ≡ namesFrom (namesAfter (namesIn gs) e) ls
-unfolding nextGroups namesAfter
-next-named gs ignored ls ih = ih gs
-next-named gs (wrong k) ls ih = ih gs
-next-named gs (group m ms) ls ih = ih (record { name = m; members = ms } ∷ gs)
-next-named gs (set h) ls ih = ih gs
-next-named gs (rule ws) ls ih = ih gs
-
-groups-named : (gs : Groups) (ls : List Line) → namesIn (groupsFrom gs ls) ≡ namesFrom (namesIn gs) ls
-unfolding namesFrom
-groups-named gs [] = rw (groups-none gs)
-groups-named gs (l ∷ ls) = rw (groups-line gs l ls) (next-named gs (entryOf l) ls (λ gs′. groups-named gs′ ls))
-
-pub defines-named : (f : Text) → definesOf f ≡ namesFrom [] (lines f)
-unfolding definesOf
-defines-named f = rw (groups-start f) (groups-named [] (lines f))

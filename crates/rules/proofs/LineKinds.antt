@@ -7,72 +7,17 @@ use mathlib.Core.Bool.{Bool, true, false, not, _&&_, cond}
 use lib.ListN.{length, getD, drop}
 use lib.Dec.{eqb}
 use borrow.Author.Tests.{eq-eqb, ne-eqb}
-use Rattle.text.specs.Bytes.{Text, Words, bytes, same, empty, rest, allOf, anyOf}
+use Rattle.text.specs.Bytes.{Words, bytes, same, empty, anyOf}
 use Rattle.text.specs.Words.{wordsFault}
-use Rattle.text.proofs.Lists.{no}
 use Rattle.rules.specs.declared.Tally.{Tally}
-use Rattle.rules.specs.declared.LineKind.{LineKind}
-use Rattle.rules.specs.declared.LineKind.the-variants as kind
-use Rattle.rules.specs.Words.{isEquals, hasDollar, ordinary, isGroupName}
+use Rattle.rules.specs.Words.{isEquals, hasDollar}
 use Rattle.rules.specs.Headings.{leftItem, componentOf, goodItems, headingOf}
-use Rattle.rules.specs.Entries.{Entry, ignored, wrong, group, set, rule, before, after, setShape, setEntry, groupEntry, headingEntry, ruleEntry, entryOf}
+use Rattle.rules.specs.Entries.{ignored, wrong, set, rule, before, after, setShape, setEntry, groupEntry, headingEntry, ruleEntry, entryOf}
 use Rattle.rules.specs.Splitting.{Tallied}
-use Rattle.rules.specs.declared.SetHeading.{SetHeading}
-use Rattle.rules.specs.Sets.{IsSet}
-use Rattle.rules.specs.Checking.{lineOf, presentBy, presentOf, IsSetLine, IsKind}
+use Rattle.rules.specs.Checking.{lineOf}
 use Rattle.rules.proofs.Sides.{before-low}
 
--- another way to write the same line
-pub kind-of : (ws : Words) (e e′ : Entry) (k : LineKind) → e ≡ e′ → IsKind ws e′ k → IsKind ws e k
-kind-of ws e e′ k h v = rw h v
-
-pub is-wrong : (ws : Words) (e : Entry) (k : ℕ) → e ≡ wrong k → IsKind ws e (kind.Wrong k)
-unfolding IsKind
-is-wrong ws e k h = h
-
 -- group lines
-
-none-entry : (n : Text) → groupEntry n [] ≡ wrong 6
-unfolding groupEntry
-none-entry n = refl
-
-some-entry : (n e : Text) (ws : Words) → groupEntry n (e ∷ ws) ≡ cond (isGroupName n && (isEquals e && allOf ordinary ws)) (group (rest n) ws) (wrong 6)
-unfolding groupEntry
-some-entry n e ws = refl
-
-module _ (n : Text) (ws : Words) where
-  pub group-short : length ws ≤ 1 → groupEntry n (drop 1 ws) ≡ wrong 6
-  group-short h = go ws h
-    where
-      go : (us : Words) → length us ≤ 1 → groupEntry n (drop 1 us) ≡ wrong 6
-      go [] h′ = none-entry n
-      go (x ∷ []) h′ = none-entry n
-      go (x ∷ y ∷ us) h′ = absurd (omega arith)
-
-  group-words : 2 ≤ length ws → groupEntry n (drop 1 ws) ≡
-      cond (isGroupName n && (isEquals (getD ws 1 []) && allOf ordinary (drop 2 ws))) (group (rest n) (drop 2 ws)) (wrong 6)
-  group-words h = go ws h
-    where
-      go : (us : Words) → 2 ≤ length us → groupEntry n (drop 1 us) ≡
-          cond (isGroupName n && (isEquals (getD us 1 []) && allOf ordinary (drop 2 us))) (group (rest n) (drop 2 us)) (wrong 6)
-      go [] h′ = absurd (omega arith)
-      go (x ∷ []) h′ = absurd (omega arith)
-      go (x ∷ y ∷ us) h′ = some-entry n y us
-
-  module _ (h : 2 ≤ length ws) where
-    pub group-unnamed : isGroupName n ≡ false → groupEntry n (drop 1 ws) ≡ wrong 6
-    group-unnamed a = group-words h ∙ rw a
-
-    pub group-unequal : isGroupName n ≡ true → isEquals (getD ws 1 []) ≡ false → groupEntry n (drop 1 ws) ≡ wrong 6
-    group-unequal a b = group-words h ∙ rw (a, b)
-
-    pub group-odd : isGroupName n ≡ true → isEquals (getD ws 1 []) ≡ true → allOf ordinary (drop 2 ws) ≡ false → groupEntry n (drop 1 ws) ≡ wrong 6
-    group-odd a b c = group-words h ∙ rw (a, b, c)
-
-    pub group-fine : isGroupName n ≡ true → isEquals (getD ws 1 []) ≡ true → allOf ordinary (drop 2 ws) ≡ true → groupEntry n (drop 1 ws) ≡ group (rest n) (drop 2 ws)
-    group-fine a b c = group-words h ∙ rw (a, b, c)
-
--- set headings
 
 empty-length : (ws : Words) → empty ws ≡ eqb (length ws) 0
 unfolding empty
@@ -185,15 +130,3 @@ module _ (n : ℕ) (h : Bool) (ws : Words) where
 -- the tally of a line counts no more words before the first `=` than there are
 pub first-count : (ws : Words) (t : Tally) → Tallied ws t → t .first ≤ t .count
 first-count ws t v = omega (arith, v .first, v .count, before-low ws)
-
-pub set-line : (ws : Words) (r : SetHeading) → setShape ws ≡ true → IsSet ws r → r .good ≡ true → IsSetLine (setEntry ws) (presentBy r)
-unfolding presentOf
-set-line ws r h v g =
-    let w = v .holds g in
-    record {
-      heading = headingOf (map leftItem (before ws)) (map componentOf (after ws));
-      is = set-good ws h (sym (v .good) ∙ g);
-      present = rw (w .left, w .right, w .index);
-      left = w .fewLeft;
-      right = w .fewRight;
-    }

@@ -12,8 +12,8 @@ use Rattle.text.specs.Words.{wordsFault}
 use Rattle.text.specs.Reading.{left, ahead, follow, faultOf, kindOf, Fenced, Blanks, Skipped, PlainFound, ByteWord, NoWord, Opens}
 use Rattle.text.proofs.Lists.{no, and-both}
 use Rattle.text.proofs.ByteKinds.{not-bad, kind-zero}
-use Rattle.text.proofs.Feeds.{FeedAt, feed-slash}
-use Rattle.text.proofs.Readers.{lineAt, line-first, fault-cons, fault-nil, lower-zero, blanks-start, between-skip, between-over, opened-skip, opened-same, fence-in}
+use Rattle.text.proofs.Feeds.{FeedAt}
+use Rattle.text.proofs.Readers.{lineAt, line-first, fault-cons, fault-nil, lower-zero, between-skip, between-over, opened-skip, opened-same, fence-in}
 use Rattle.rules.specs.declared.Present.{Present}
 use Rattle.rules.specs.Words.{isEquals, ordinary, leftWord}
 use Rattle.rules.specs.Percent.{pieces, badPiece, malformed}
@@ -233,20 +233,6 @@ module _ (s : Text) (f from i : ℕ) (p : Present) (g : Fenced s f) (h : from < 
   opens-at n y x z =
       opened-same s from n i n (opened-skip s from n i y (k .blanks)) (fence-in s f i g l)
       (record { blank = k .stop (fence-in s f i g l); bang = x; joins = λ e. absurd (z e) })
-
-  pub line-none : (z : ℕ) → FeedAt s i z → (getD s i 0 ≡ 33 → ⊥) → LineRead s from p z
-  line-none z e b =
-      let x : (n : ℕ) → n ≤ from + 1 → NoWord s i n z (n + 1) =
-      λ n y. between-over s i n i n z (between-skip s i n i (omega (arith, y, k .blanks .low)) (blanks-start s i (omega (arith, e .low, e .high)))) e in
-      record {
-        low = omega (arith, k .blanks .low, e .low);
-        high = e .high;
-        words = [];
-        read = λ n y.
-            opens-read s from n i (omega (arith, g .high)) (opens-at n y b (feed-slash s i z e))
-            ∙ rw (x n y .none, x n y .onto) refl;
-        passes = passes-none p;
-      }
 
   pub line-rule : (e : ℕ) → (getD s i 0 ≡ 33 → ⊥) → kindOf (getD s i 0) ≡ 0 → (p .form ≡ 0 → ⊥) → RuleRead s i p e → LineRead s from p e
   line-rule e x z q r =

@@ -13,7 +13,7 @@ use Rattle.text.proofs.Joined.{shifted}
 use Rattle.rules.specs.Headings.{Heading}
 use Rattle.rules.specs.Entries.{Entry, ignored, wrong, group, set, rule, entryOf}
 use Rattle.rules.specs.Sections.{Rule, Head, bad, defines, applies, Section, Sections, addEntry, sections}
-use Rattle.rules.specs.Faults.{Groups, withGroup, groupsAfter, ruleFault, orphans, headFaults, faults}
+use Rattle.rules.specs.Faults.{Groups, withGroup, ruleFault, orphans, headFaults, faults}
 
 pub sections-cons : (l : Line) (ls : List Line) → sections (l ∷ ls) ≡ addEntry (l .number) (entryOf l) (sections ls)
 unfolding sections
@@ -58,11 +58,6 @@ sections-shift k (l ∷ a) =
     (shift-add k (l .number) (entryOf l) (sections a))
 
 -- the groups that shifted sections define are the same
-
-pub groups-shift : (gs : Groups) (k : ℕ) (ss : List Section) → groupsAfter gs (map (shiftSection k) ss) ≡ groupsAfter gs ss
-unfolding groupsAfter shiftSection
-groups-shift gs k [] = refl
-groups-shift gs k (s ∷ ss) = groups-shift (withGroup (s .head) gs) k ss
 
 -- faults
 

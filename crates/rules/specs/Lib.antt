@@ -9,3 +9,4 @@ pub mod Splitting
 pub mod Checking
 pub mod Sets
 pub mod Plain
+pub mod Held

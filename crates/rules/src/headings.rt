@@ -3,8 +3,7 @@ ghost use mathlib.Core.Path.{_≡_};
 ghost use lib.ListN.{length, take};
 ghost use Rattle.text.specs.Bytes.{same as sameText};
 ghost use Rattle.text.specs.Limits.{mostLayouts};
-ghost use Rattle.rules.specs.Headings.{numberedIn, upFrom, indexOf, leftItem, componentOf, columnNumber, indexNumber, hasWord};
-use super::Column;
+ghost use Rattle.rules.specs.Headings.{numberedIn, upFrom, indexOf, leftItem, componentOf, indexNumber, hasWord};
 use super::Index;
 use super::Item;
 use super::percent::tail;
@@ -105,18 +104,6 @@ pub fn component_of(w: &[u8]) -> usize
         return 4;
     }
     5
-}
-
-// A number to compare columns by.
-pub fn column_number(c: Column) -> usize
-    ensures { λ r. ⌜ r ≡ columnNumber c ⌝ }
-{
-    match c {
-        Column::Model => 1,
-        Column::Layout => 2,
-        Column::Variant => 3,
-        Column::Options => 4,
-    }
 }
 
 // A number to compare indexes by.

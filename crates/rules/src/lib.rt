@@ -1,6 +1,5 @@
 // What the lines of a rules file are: the types that its definitions and its readers share.
 
-pub mod check;
 pub mod headings;
 pub mod judge;
 pub mod lines;
@@ -89,32 +88,12 @@ pub struct Present {
     pub right: usize,
 }
 
-// What a line is by itself.
-pub enum LineKind {
-    Ignored,
-    Wrong(usize),
-    Group,
-    Set(Present),
-    Rule,
-}
-
-// How far a check has come: the next line's start and number, the groups so far, the present heading; of the line before, its refusal, or 0, and whether it is
-// a heading.
-pub struct Progress {
-    pub at: usize,
-    pub line: usize,
-    pub groups: usize,
-    pub present: Present,
-    pub fault: usize,
-    pub heading: bool,
-}
-
-// A file's first refusal, or number 0; how many groups it has; and how many of its headings are listed.
-pub struct Checked {
-    pub refusal: text::Refusal,
-    pub groups: usize,
-    pub heads: usize,
-}
+// No set has begun: a rule here is refused.
+pub const NO_HEADING: Present = Present {
+    form: 0,
+    left: 0,
+    right: 0,
+};
 
 // Numbers kept in order; `good` as long as none is repeated and there are at most five.
 pub struct Listing {

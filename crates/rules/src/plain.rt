@@ -3,13 +3,12 @@
 ghost use mathlib.Core.Path.{_≡_};
 ghost use Prim.Native.Nat.{_<_};
 ghost use Rattle.text.specs.Reading.{Table, Fenced};
-ghost use Rattle.rules.specs.Plain.{LeftRead, RightWord, RightRead, RuleRead, LineRead};
+ghost use Rattle.rules.specs.Plain.{LeftRead, RightWord, RightRead, RuleRead};
 use super::Present;
 use super::percent::is_malformed;
 use super::words::is_left_word;
 use super::words::is_ordinary;
 use text::Plain;
-use text::bytes::kind;
 use text::reader::byte_word;
 use text::reader::feed_end;
 use text::reader::plain_word;
@@ -112,26 +111,4 @@ pub fn rule_end(s: &[u8], t: &[u8; 512], fence: usize, from: usize, p: Present) 
     }
     let e = skip_fast(s, t, fence, b);
     feed_end(s, e)
-}
-
-// A line under the heading p, from its start on.
-pub fn line_end(s: &[u8], t: &[u8; 512], fence: usize, from: usize, p: Present) -> usize
-    requires { ⌜ Table (now t) × Fenced (now s) fence ⌝ }
-    ensures { λ r. ⌜ ((r ≡ 0 → ⊥) → LineRead (now (s .entry)) from p r) ⌝ }
-{
-    if fence <= from {
-        return 0;
-    }
-    let i = skip_fast(s, t, fence, from);
-    let b = s[i];
-    if b == 33 {
-        return 0;
-    }
-    if kind(t, b) != 0 {
-        return feed_end(s, i);
-    }
-    if p.form == 0 {
-        return 0;
-    }
-    rule_end(s, t, fence, i, p)
 }

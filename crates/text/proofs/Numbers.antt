@@ -1,9 +1,11 @@
 -- Each refusal has a number of document 01; a test that refuses nothing does not hold.
-use Prim.Native.Nat.{ℕ}
+use Prim.Native.Nat.{ℕ, _≤_, _<_}
+use native.Mathlib.Omega.{arith}
 use mathlib.Core.Path.{_≡_, refl}
 use mathlib.Core.List.{[], _∷_}
 use mathlib.Core.Bool.{Bool, true, false, not, cond}
-use lib.Dec.{eqb}
+use lib.Dec.{eqb, ltb}
+use borrow.Author.Tests.{ltb-true, ltb-false}
 use Rattle.text.specs.Bytes.{Words, allOf, anyOf}
 use Rattle.text.specs.Words.{badByte, tooLong, wordsFault}
 use Rattle.text.specs.Refusals.{refusedIf, refusedAs, isNumber, hasNumber}
@@ -35,3 +37,11 @@ words-number ws = go (anyOf (anyOf badByte) ws) (anyOf tooLong ws)
     go true u = refl
     go false true = refl
     go false false = refl
+
+-- at most, and not equal
+pub below-or : (x y : ℕ) → x ≤ y → (x ≡ y → ⊥) → x < y
+below-or x y l d = by (ltb x y) refl
+  where
+    by : (u : Bool) → ltb x y ≡ u → x < y
+    by true z = ltb-true x y z
+    by false z = absurd (d (let k = ltb-false x y z in omega arith))

@@ -11,8 +11,8 @@ use borrow.Author.Tests.{eqb-true, eqb-false, ltb-true, ltb-false, le-leb, lt-le
 use Rattle.text.specs.Bytes.{Text, bytes, same, part, concatMap}
 use Rattle.text.proofs.Comparing.{drop-at}
 use Rattle.text.proofs.Lists.{no, or-right, same-eq, nothing}
+use Rattle.text.proofs.Numbers.{below-or}
 use Rattle.text.proofs.Positions.{part-empty, part-cons}
-use Rattle.lookup.proofs.Ranking.{below-or}
 use Rattle.rules.specs.Headings.{decimal}
 use Rattle.rules.proofs.Pieces.{tail-whole}
 use Rattle.profile.specs.Profile.{push}

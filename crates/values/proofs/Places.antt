@@ -5,16 +5,15 @@ use mathlib.Core.Path.{_≡_, refl, sym, ap, _∙_}
 use mathlib.Core.List.{List, []}
 use mathlib.Core.Bool.{Bool, true, false}
 use lib.Dec.{ltb}
-use lib.ListN.{length, take, drop, getD, length-take, List·getD-eq-default}
+use lib.ListN.{length, drop, getD, length-take, List·getD-eq-default}
 use borrow.Author.Tests.{ltb-true, ltb-false}
 use Rattle.text.specs.Limits.{longestField}
 use Rattle.text.specs.Bytes.{Text, part}
 use Rattle.profile.specs.Profile.{Texts, fields, profileOf, layoutCount}
 use Rattle.profile.specs.Places.{mostValues, beforeLayouts, beforeVariants, valueAt, valuesFrom, profileAt, Placed, ValuesOf}
-use Rattle.values.specs.Values.{filled}
 use Rattle.values.specs.Spread.{expanded}
 use Rattle.values.proofs.Filling.{ShortValues}
-use Rattle.values.proofs.Profiles.{SameValues, filled-same, expanded-same}
+use Rattle.values.proofs.Profiles.{SameValues, expanded-same}
 
 none-beyond : (ts : List Text) (i : ℕ) → length ts ≤ i → getD ts i [] ≡ []
 none-beyond ts i h = List·getD-eq-default ts [] h
@@ -117,9 +116,6 @@ module _ (x : Texts) (s : Text) (b : List ℕ) (v : ValuesOf x s b) (n : ℕ) (c
         layouts = same-nth s b (fields (x .layouts)) beforeLayouts n few (omega (arith, count)) (v .layout);
         variants = same-nth s b (fields (x .variants)) beforeVariants n few missing (v .variant);
       }
-
-  pub placed-filled : (k : ℕ) (w : Text) → filled (profileAt s b n) k w ≡ filled (profileOf x) k w
-  placed-filled k w = filled-same (profileAt s b n) (profileOf x) placed-same k w
 
   pub placed-expanded : (k : ℕ) (w : Text) → expanded (profileAt s b n) k w ≡ expanded (profileOf x) k w
   placed-expanded k w = expanded-same (profileAt s b n) (profileOf x) placed-same k w

@@ -1,6 +1,6 @@
 -- What a value takes of a profile: its texts but the options.
 use Prim.Native.Nat.{ℕ, _-_}
-use mathlib.Core.Path.{_≡_, refl, ap}
+use mathlib.Core.Path.{_≡_, refl}
 use mathlib.Core.List.{List, [], _∷_}
 use lib.ListN.{getD}
 use Rattle.text.specs.Bytes.{Text, concatMap}
@@ -65,9 +65,6 @@ module _ (m l v o : Text) (k : ℕ) where
   options-same : SameValues (profileOf (textsOf m l v o)) (profileOf (textsOf m l v []))
   unfolding profileOf layoutCount
   options-same = record { model = refl; count = refl; layouts = λ i. refl; variants = λ i. refl }
-
-  pub expanded-options : (t : Text) → expanded (profileOf (textsOf m l v o)) k t ≡ expanded (profileOf (textsOf m l v [])) k t
-  expanded-options t = expanded-same (profileOf (textsOf m l v o)) (profileOf (textsOf m l v [])) options-same k t
 
 -- the filled text, spread over the layouts, is the expanded word
 pub expanded-by : (p : Profile) (k n : ℕ) (t u : Text) → n ≡ layoutCount p → u ≡ filled p k t → concatMap (spread n) (cuts u) ≡ expanded p k t

@@ -8,7 +8,7 @@ use Rattle.text.specs.Bytes.{Text, part, concatMap}
 use Rattle.output.specs.Store.{stored, farthest, past, Wrote}
 use Rattle.output.proofs.Stores.{stored-append, length-stored, stored-behind, wrote-none, wrote-then}
 use Rattle.rules.specs.Headings.{decimal}
-use Rattle.profile.proofs.Listing.{length-part}
+use Rattle.profile.proofs.OptionFields.{length-part}
 use Rattle.values.specs.Spread.{cuts, copies, spread}
 use Rattle.values.specs.Cutting.{FirstAll, startOf, signOf, behindSign, moreCopies}
 use Rattle.values.proofs.Writes.{Writing, writing-start, writing-more, writing-end}

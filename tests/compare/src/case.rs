@@ -1,28 +1,44 @@
-//! One case: rules, profile and room; and its escaped form, as in the vectors.
+//! One case: bundle, path texts, profile and room; and its escaped form, as in
+//! the vectors.
 
-use crate::second::{self, Answer};
+use crate::library::LANDED;
+use crate::second::bundle::{pack, unpack};
+use crate::second::{self, Answer, Requests};
 
 #[derive(Clone, Debug, Default, PartialEq, Eq)]
 pub struct Case {
-    /// Rules, model, layouts, variants and options.
-    pub inputs: [Vec<u8>; 5],
+    /// Bundle, home, extra, system, model, layouts, variants and options.
+    pub inputs: [Vec<u8>; 8],
     pub room: usize,
 }
 
-impl Case {
-    /// Of the first five inputs.
-    pub fn of<T: AsRef<[u8]>>(inputs: &[T], room: usize) -> Case {
-        let inputs = std::array::from_fn(|i| inputs[i].as_ref().to_vec());
-        Case { inputs, room }
-    }
+/// The inputs by name.
+pub const BUNDLE: usize = 0;
+pub const MODEL: usize = 4;
+pub const OPTIONS: usize = 7;
 
+/// The bundle of one unnamed file.
+pub fn lone(rules: &[u8]) -> Vec<u8> {
+    pack(&[(b"", rules)])
+}
+
+impl Case {
+    /// One unnamed file and empty path texts.
     pub fn new(rules: &[u8], profile: [&[u8]; 4], room: usize) -> Case {
-        let [model, layouts, variants, options] = profile;
-        Case::of(&[rules, model, layouts, variants, options], room)
+        Case::bundled(lone(rules), [b"", b"", b""], profile, room)
     }
 
     pub fn text(rules: &str, profile: [&str; 4], room: usize) -> Case {
         Case::new(rules.as_bytes(), profile.map(str::as_bytes), room)
+    }
+
+    pub fn bundled(bundle: Vec<u8>, paths: [&[u8]; 3], profile: [&[u8]; 4], room: usize) -> Case {
+        let texts = paths.iter().chain(&profile).map(|text| text.to_vec());
+        let mut inputs: [Vec<u8>; 8] = Default::default();
+        for (input, text) in inputs.iter_mut().zip([bundle].into_iter().chain(texts)) {
+            *input = text;
+        }
+        Case { inputs, room }
     }
 
     pub fn with_room(&self, room: usize) -> Case {
@@ -32,12 +48,54 @@ impl Case {
         }
     }
 
-    pub fn second(&self) -> Answer {
-        let [rules, model, layouts, variants, options] = &self.inputs;
-        second::resolve(rules, model, layouts, variants, options, self.room)
+    pub fn paths(&self) -> [&[u8]; 3] {
+        std::array::from_fn(|i| self.inputs[1 + i].as_slice())
     }
 
-    /// The case's six fields in the escaped form.
+    pub fn profile(&self) -> [&[u8]; 4] {
+        std::array::from_fn(|i| self.inputs[MODEL + i].as_slice())
+    }
+
+    /// The second resolver's answer under the requests that have landed.
+    pub fn second(&self) -> Answer {
+        self.second_under(LANDED)
+    }
+
+    pub fn second_under(&self, requests: Requests) -> Answer {
+        let bundle = &self.inputs[BUNDLE];
+        second::resolve(bundle, self.paths(), self.profile(), self.room, requests)
+    }
+
+    /// The inputs with the bundle's names and files apart, if it is a bundle.
+    pub fn parts(&self) -> Vec<Vec<u8>> {
+        let mut parts = self.inputs[1..].to_vec();
+        match unpack(&self.inputs[BUNDLE]) {
+            Some(files) => {
+                let files = files.into_iter().flat_map(|(name, bytes)| [name, bytes]);
+                parts.extend(files.map(<[u8]>::to_vec));
+            }
+            None => parts.push(self.inputs[BUNDLE].clone()),
+        }
+        parts
+    }
+
+    /// The case that has these parts.
+    pub fn of_parts(parts: &[Vec<u8>], room: usize) -> Case {
+        let (texts, files) = parts.split_at(7);
+        let bundle = match files {
+            [broken] => broken.clone(),
+            _ => {
+                let files: Vec<_> = files.chunks(2).map(|file| (&file[0], &file[1])).collect();
+                pack(&files)
+            }
+        };
+        let texts: [&[u8]; 7] = std::array::from_fn(|i| texts[i].as_slice());
+        let [home, extra, system, model, layouts, variants, options] = texts;
+        let profile = [model, layouts, variants, options];
+        Case::bundled(bundle, [home, extra, system], profile, room)
+    }
+
+    /// The case's nine fields in the escaped form.
     pub fn row(&self) -> String {
         let mut row = String::new();
         for input in &self.inputs {
@@ -48,9 +106,10 @@ impl Case {
     }
 }
 
-/// An answer's twelve fields in the escaped form.
+/// An answer's thirteen fields in the escaped form.
 pub fn answer_row(answer: &Answer) -> String {
-    let mut row = format!("{}\t{}", answer.number, answer.place);
+    let (file, line) = (answer.place >> 32, answer.place & 0xffff_ffff);
+    let mut row = format!("{}\t{file}\t{line}", answer.number);
     for text in &answer.texts {
         row += "\t";
         row += &escape(text);
@@ -86,30 +145,6 @@ pub fn unescape(text: &[u8]) -> Option<Vec<u8>> {
     Some(bytes)
 }
 
-/// Reads one line of a vectors file.
-pub fn read_row(line: &[u8]) -> Option<(Case, Answer)> {
-    let fields: Vec<&[u8]> = line.split(|&b| b == b'\t').collect();
-    if fields.len() != 18 {
-        return None;
-    }
-    let mut case = Case {
-        room: number(fields[5])? as usize,
-        ..Case::default()
-    };
-    for (input, field) in case.inputs.iter_mut().zip(&fields[..5]) {
-        *input = unescape(field)?;
-    }
-    let mut answer = Answer {
-        number: number(fields[6])?,
-        place: number(fields[7])?,
-        ..Answer::default()
-    };
-    for (text, field) in answer.texts.iter_mut().zip(&fields[8..]) {
-        *text = unescape(field)?;
-    }
-    Some((case, answer))
-}
-
-fn number(field: &[u8]) -> Option<u64> {
+pub fn number(field: &[u8]) -> Option<u64> {
     std::str::from_utf8(field).ok()?.parse().ok()
 }

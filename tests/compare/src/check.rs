@@ -1,12 +1,13 @@
 //! Compares the library's answer to one case with an expected answer: number,
-//! place, ten lengths, texts, bytes that must stay, and the component entry.
+//! place, ten lengths, texts, bytes that must stay, the component entry, and the
+//! entry that checks a bundle without a profile.
 
 use std::collections::HashSet;
 use std::ops::Range;
 
-use crate::case::Case;
-use crate::library::{self, Number};
-use crate::second::{stretch, Answer};
+use crate::case::{Case, BUNDLE};
+use crate::library::{self, Number, LANDED};
+use crate::second::{self, stretch, Answer};
 
 /// Bytes before and behind each lent buffer that belong to no one.
 const GUARD: usize = 24;
@@ -64,16 +65,22 @@ pub struct Seen {
     inputs_stayed: bool,
 }
 
-/// Calls the library with buffers filled with a pattern.
-pub fn call(case: &Case, sheet_length: usize, pattern: u8) -> Seen {
+/// The first inputs side by side, some bytes apart, and where each stands.
+fn lay_out<const N: usize>(case: &Case, pattern: u8) -> (Vec<u8>, [Range<usize>; N]) {
     let mut inputs = vec![pattern; GUARD];
-    let ranges: [Range<usize>; 5] = std::array::from_fn(|i| {
+    let ranges = std::array::from_fn(|i| {
         let start = inputs.len();
         inputs.extend(&case.inputs[i]);
         let end = inputs.len();
         inputs.extend([pattern; 3]);
         start..end
     });
+    (inputs, ranges)
+}
+
+/// Calls the library with buffers filled with a pattern.
+pub fn call(case: &Case, sheet_length: usize, pattern: u8) -> Seen {
+    let (mut inputs, ranges) = lay_out(case, pattern);
     let before = inputs.clone();
     let mut texts = Lent::new(case.room, pattern);
     let mut sheet = Lent::new(sheet_length, !pattern);
@@ -136,6 +143,10 @@ pub fn complaints(case: &Case, expected: &Answer) -> Vec<String> {
     if list.is_empty() {
         compare_components(case, expected, mark, &mut list);
     }
+    // Every bundle of several files is checked by itself, and every fourth other.
+    if LANDED.bundles && (mark % 4 == 0 || !case.inputs[BUNDLE].starts_with(&[1, 0])) {
+        compare_check(case, mark, &mut list);
+    }
     let mut seen = HashSet::new();
     list.retain(|complaint| seen.insert(complaint.clone()));
     list
@@ -187,6 +198,55 @@ fn short_sheet(case: &Case, expected: &Answer, length: usize, list: &mut Vec<Str
     for complaint in &mut list[before..] {
         *complaint += &format!(" (length sheet of {length} bytes)");
     }
+}
+
+/// What a check answers: number, place, and what is written to the lent name.
+pub type Checked = (u64, u64, Vec<u8>);
+
+/// The bundle without the profile, with several rooms around the name's length.
+fn compare_check(case: &Case, mark: usize, list: &mut Vec<String>) {
+    let bundle = &case.inputs[BUNDLE];
+    let whole = second::check(bundle, case.paths(), usize::MAX, LANDED);
+    let length = whole.2.len();
+    let mut rooms = vec![mark % 300];
+    if whole.0 == 13 {
+        rooms.extend([length.saturating_sub(1), length, length + 1]);
+    }
+    for room in rooms {
+        let expected = if length > room {
+            (11, 0, Vec::new())
+        } else {
+            whole.clone()
+        };
+        list.extend(check_complaints(case, room, &expected));
+    }
+}
+
+/// In what the check of a bundle differs from the expected answer.
+pub fn check_complaints(case: &Case, room: usize, expected: &Checked) -> Vec<String> {
+    let mut list = Vec::new();
+    for pattern in [0x00, 0xff] {
+        let (mut inputs, ranges) = lay_out(case, pattern);
+        let before = inputs.clone();
+        let mut name = Lent::new(room, pattern);
+        let seen = library::check(&mut inputs, &ranges, name.lend());
+        let wanted = (expected.0, expected.1);
+        if seen != wanted {
+            list.push(format!(
+                "check, name of {room} bytes: {seen:?}, not {wanted:?}"
+            ));
+        }
+        let left = Lent::new(room, pattern).put(&expected.2);
+        if let Some(at) = name.difference(&left) {
+            list.push(format!(
+                "check, name of {room} bytes: byte {at} of it differs"
+            ));
+        }
+        if inputs != before {
+            list.push("check changed an input".into());
+        }
+    }
+    list
 }
 
 fn compare_components(case: &Case, expected: &Answer, mark: usize, list: &mut Vec<String>) {

@@ -2,8 +2,10 @@
 //! words; faults are put into these; then it is written out with blanks,
 //! comments and joined lines; then bytes may be damaged.
 
+use crate::bundles;
 use crate::case::Case;
 use crate::damage;
+use crate::library::LANDED;
 use crate::prng::Prng;
 use crate::words::{self, Profile, GROUPS};
 
@@ -167,20 +169,6 @@ const BETWEEN: &[&str] = &[
 ];
 const MARKS: &[&str] = &["! ", "! ", "!", " ! ", "\t!\t", "!\\\n", "\\\n!"];
 
-/// Every LF made CR LF, or some of them.
-fn with_returns(rng: &mut Prng, text: &str) -> String {
-    if rng.chance(60) {
-        return text.replace('\n', "\r\n");
-    }
-    let lines: Vec<&str> = text.split('\n').collect();
-    let mut mixed = String::from(lines[0]);
-    for line in &lines[1..] {
-        mixed += rng.pick(&["\n", "\r\n"]);
-        mixed += line;
-    }
-    mixed
-}
-
 /// Writes the lines out.
 pub fn write(rng: &mut Prng, rows: &[Row]) -> Vec<u8> {
     let plain = rng.chance(30);
@@ -202,13 +190,29 @@ pub fn write(rng: &mut Prng, rows: &[Row]) -> Vec<u8> {
         }
         text.push('\n');
     }
-    if rng.chance(20) {
-        text = with_returns(rng, &text);
-    }
     if rng.chance(10) {
         text.pop();
     }
+    if LANDED.cr_lf && rng.chance(12) {
+        text = office_line_ends(rng, &text);
+    }
     text.into_bytes()
+}
+
+/// All or some line ends made CR LF, and now and then a CR too many.
+fn office_line_ends(rng: &mut Prng, text: &str) -> String {
+    let all = rng.chance(60);
+    let mut changed = String::new();
+    for byte in text.chars() {
+        if byte == '\n' && (all || rng.chance(40)) {
+            changed.push('\r');
+        }
+        if rng.below(1000) == 0 {
+            changed.push('\r');
+        }
+        changed.push(byte);
+    }
+    changed
 }
 
 fn long_file(rng: &mut Prng, profile: &Profile) -> Vec<u8> {
@@ -239,7 +243,7 @@ fn large_texts(rng: &mut Prng, profile: &mut Profile) -> Vec<u8> {
     rules.into_bytes()
 }
 
-fn room(rng: &mut Prng) -> usize {
+pub fn room(rng: &mut Prng) -> usize {
     match rng.below(100) {
         0..=44 => 4096,
         45..=69 => 1024,
@@ -293,13 +297,17 @@ pub fn case(seed: u64, index: u64) -> Case {
     if rng.chance(3) {
         words::damage_texts(&mut rng, &mut texts);
     }
-    let [model, layouts, variants, options] = texts;
     let mut room = room(&mut rng);
     if rules.len() > 1000 && rng.chance(20) {
         room = (1 << 20) - 1 + rng.below(3);
     }
-    Case {
-        inputs: [rules, model, layouts, variants, options],
-        room,
+    Case::new(&rules, texts.each_ref().map(Vec::as_slice), room)
+}
+
+/// A generated case of either kind.
+pub fn any_case(seed: u64, index: u64) -> Case {
+    if LANDED.bundles && index % 2 == 0 {
+        return bundles::case(seed, index);
     }
+    case(seed, index)
 }

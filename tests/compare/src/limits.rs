@@ -1,6 +1,6 @@
 //! Listed cases: sizes at every limit and beyond.
 
-use crate::case::Case;
+use crate::case::{Case, MODEL, OPTIONS};
 
 const ROOM: usize = 2048;
 const FILE: usize = 65_536;
@@ -105,7 +105,7 @@ fn texts(list: &mut Vec<Case>) {
     let rules = "! option = symbols types\n* = %m%(l)%(v) +%m:all\nooo = +o +p\n";
     for length in [0, 1, 62, 63, 64, 65, 66, 129, 1022, 1023, 1024, 1025, 1026] {
         for field in [16, 63, 64, 65, 2000] {
-            for text in 1..5 {
+            for text in MODEL..=OPTIONS {
                 let mut case = Case::text(rules, ["pc", "us", "", "o"], ROOM);
                 case.inputs[text] = text_of(length, field).into_bytes();
                 list.push(case);
@@ -114,7 +114,7 @@ fn texts(list: &mut Vec<Case>) {
     }
     for length in 62..67 {
         for at in 0..4 {
-            for text in 1..5 {
+            for text in MODEL..=OPTIONS {
                 let mut fields = vec!["a".to_string(); 4];
                 fields[at] = x(length);
                 let mut case = Case::text(rules, ["pc", "us,fr,de,gb", "", "o"], ROOM);
@@ -177,7 +177,8 @@ fn groups(list: &mut Vec<Case>) {
     }
 }
 
-/// Up to 64 names that are hard to tell apart, as groups and as options, listed in several orders: each of them is asked for, and names between them.
+/// Up to 64 names that are hard to tell apart, as groups and as options, listed in
+/// several orders: each of them is asked for, and names between them.
 fn names(list: &mut Vec<Case>) {
     let letters: Vec<char> = ('0'..='9')
         .chain('A'..='Z')
@@ -258,7 +259,11 @@ fn totals(list: &mut Vec<Case>) {
     }
     for total in [TOTAL - 1, TOTAL, TOTAL + 1, TOTAL + 2] {
         let shared = in_five(total);
-        for more in ["", "! model = symbols\n* = s\n", "! option = types\n* = %v[3]\n* = +t\n"] {
+        for more in [
+            "",
+            "! model = symbols\n* = s\n",
+            "! option = types\n* = %v[3]\n* = +t\n",
+        ] {
             for room in [0, TOTAL - 1, TOTAL, TOTAL + 1, 2 * TOTAL] {
                 let rules = format!("{shared}{more}");
                 list.push(Case::text(&rules, [&model, "us", "", ""], room));
@@ -297,7 +302,8 @@ fn additions(component: &str, length: usize) -> String {
     rules
 }
 
-/// Texts around 1,024 bytes, and around its multiples: a resolve keeps texts up to this length in a region of their own until their lengths are known.
+/// Texts around 1,024 bytes, and around its multiples: a resolve keeps texts up to
+/// this length in a region of their own until their lengths are known.
 fn long_texts(list: &mut Vec<Case>) {
     let model = "m".repeat(64);
     let short = "! model = keycodes types compat symbols geometry\n* = k t c s g\n";

@@ -2,9 +2,11 @@
 //! disagreement made small.
 
 use std::thread;
+use std::time::Instant;
 
-use crate::case::{answer_row, Case};
+use crate::case::{answer_row, Case, BUNDLE};
 use crate::check::{call, complaints};
+use crate::library::takes;
 use crate::second::Answer;
 use crate::shrink::shrink;
 
@@ -24,7 +26,7 @@ pub struct Failure {
 pub struct Tally {
     pub cases: u64,
     /// How often each number was answered.
-    pub answers: [u64; 12],
+    pub answers: [u64; 16],
     pub with_text: u64,
     pub with_both: u64,
     pub failures: Vec<Failure>,
@@ -123,6 +125,16 @@ pub fn run_list(name: &str, list: &[Case]) -> Tally {
     })
 }
 
+/// The longest time, in milliseconds, that the library takes for one of the cases.
+pub fn slowest(list: &[Case]) -> u128 {
+    let time = |case: &Case| {
+        let start = Instant::now();
+        call(case, 40, 0);
+        start.elapsed().as_millis()
+    };
+    list.iter().map(time).max().unwrap_or(0)
+}
+
 /// Prints the part's first disagreements, each made small.
 pub fn finish(name: &str, mut tally: Tally) -> Tally {
     let found = tally.failures.len();
@@ -145,7 +157,7 @@ pub fn finish(name: &str, mut tally: Tally) -> Tally {
 }
 
 fn disagrees(case: &Case) -> bool {
-    !complaints(case, &case.second()).is_empty()
+    takes(&case.inputs[BUNDLE]) && !complaints(case, &case.second()).is_empty()
 }
 
 /// The length of the ten texts, in whatever room.
@@ -163,13 +175,13 @@ fn small(case: &Case) -> Case {
         .into_iter()
         .find(|&room| disagrees(&case.with_room(room)));
     let old = total(case);
-    let smaller = |inputs: &[Vec<u8>]| {
-        let smaller = Case::of(inputs, case.room);
+    let smaller = |parts: &[Vec<u8>]| {
+        let smaller = Case::of_parts(parts, case.room);
         let room = plain.unwrap_or_else(|| (case.room + total(&smaller)).saturating_sub(old));
         smaller.with_room(room)
     };
-    let inputs = shrink(case.inputs.to_vec(), &|inputs| disagrees(&smaller(inputs)));
-    smaller(&inputs)
+    let parts = shrink(case.parts(), &|parts| disagrees(&smaller(parts)));
+    smaller(&parts)
 }
 
 fn print_failure(name: &str, failure: &Failure, small: &Case) {
@@ -190,8 +202,12 @@ fn print_failure(name: &str, failure: &Failure, small: &Case) {
 /// Prints a case and both answers; very long answers are cut.
 pub fn print_case(case: &Case) {
     let second = case.second();
-    let library = call(case, 40, 0).answer();
     println!("  case:    {}", case.row());
+    if !takes(&case.inputs[BUNDLE]) {
+        println!("  second:  {}", answer_row(&second));
+        return;
+    }
+    let library = call(case, 40, 0).answer();
     for (name, answer) in [("second: ", &second), ("library:", &library)] {
         let row = answer_row(answer);
         let cut = row.len().min(4000);

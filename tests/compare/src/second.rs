@@ -1,12 +1,15 @@
-//! The second resolver. It reads the whole rules file into lines, groups and
-//! sets, and then walks the sets for one profile. Each component is kept
-//! twice: as one string under the stepwise update, and as base and additions.
+//! The second resolver. It reads a bundle's first file, and each file where an
+//! include line names it, into groups and sets, and then walks these for one
+//! profile. Each component is kept twice: as one string under the stepwise
+//! update, and as base and additions.
 
+pub mod bundle;
 pub mod cards;
 mod lines;
 mod values;
 
 use std::collections::{HashMap, HashSet};
+use std::rc::Rc;
 
 pub use lines::ends_a_line;
 use lines::{split_lines, Line};
@@ -20,6 +23,7 @@ const MAX_FILE: usize = 65_536;
 const MAX_WORD: usize = 256;
 const MAX_GROUPS: usize = 64;
 const MAX_TOTAL: usize = 1_048_576;
+const MAX_DEPTH: usize = 5;
 
 /// The components in the order of the answer.
 pub const COMPONENTS: [&str; 5] = ["keycodes", "types", "compat", "symbols", "geometry"];
@@ -40,28 +44,58 @@ impl Answer {
     }
 }
 
-#[derive(Clone, Copy, Debug, PartialEq, Eq)]
+/// The requests of document 02 that change answers: #101, #103 and #105. With one
+/// off, answers are as before it.
+#[derive(Clone, Copy)]
+pub struct Requests {
+    pub bundles: bool,
+    pub cr_lf: bool,
+    pub order: bool,
+}
+
+impl Requests {
+    pub const NONE: Requests = Requests {
+        bundles: false,
+        cr_lf: false,
+        order: false,
+    };
+    pub const ALL: Requests = Requests {
+        bundles: true,
+        cr_lf: true,
+        order: true,
+    };
+}
+
+#[derive(Clone, Debug, PartialEq, Eq)]
 pub struct Refusal {
     pub number: u64,
     pub place: u64,
+    /// The written-out path that 13 did not find.
+    pub path: Bytes,
 }
 
-fn refuse<T>(number: u64, place: usize) -> Result<T, Refusal> {
+fn refuse<T>(number: u64, place: u64) -> Result<T, Refusal> {
+    let path = Bytes::new();
     Err(Refusal {
         number,
-        place: place as u64,
+        place,
+        path,
     })
 }
 
+/// The place of a line; files are counted from 0 here, lines from 1.
+fn place(file: usize, line: usize) -> u64 {
+    ((file as u64 + 1) << 32) + line as u64
+}
+
 pub fn resolve(
-    rules: &[u8],
-    model: &[u8],
-    layouts: &[u8],
-    variants: &[u8],
-    options: &[u8],
+    bundle: &[u8],
+    paths: [&[u8]; 3],
+    profile: [&[u8]; 4],
     room: usize,
+    requests: Requests,
 ) -> Answer {
-    match accepted(rules, [model, layouts, variants, options], room) {
+    match accepted(bundle, paths, profile, room, requests) {
         Ok(texts) => Answer {
             number: 0,
             place: 0,
@@ -75,18 +109,39 @@ pub fn resolve(
     }
 }
 
-fn accepted(rules: &[u8], texts: [&[u8]; 4], room: usize) -> Result<[Bytes; 10], Refusal> {
+fn accepted(
+    bundle: &[u8],
+    paths: [&[u8]; 3],
+    texts: [&[u8]; 4],
+    room: usize,
+    requests: Requests,
+) -> Result<[Bytes; 10], Refusal> {
     let profile = profile(texts)?;
-    if rules.len() > MAX_FILE {
-        return refuse(3, 0);
-    }
-    let file = read(rules)?;
-    let texts = walk(&file, &profile);
+    let text = read(bundle, paths, requests)?;
+    let Some(texts) = walk(&text, &profile, requests) else {
+        return refuse(11, 0);
+    };
     let total: usize = texts.iter().map(Vec::len).sum();
     if total > room || total > MAX_TOTAL {
         return refuse(11, 0);
     }
     Ok(texts)
+}
+
+/// The bundle without a profile: number and place, and the bytes written to the
+/// lent name. For 13 the place is the path's length.
+pub fn check(
+    bundle: &[u8],
+    paths: [&[u8]; 3],
+    room: usize,
+    requests: Requests,
+) -> (u64, u64, Bytes) {
+    match read(bundle, paths, requests) {
+        Ok(_) => (0, 0, Bytes::new()),
+        Err(refusal) if refusal.number != 13 => (refusal.number, refusal.place, Bytes::new()),
+        Err(refusal) if refusal.path.len() > room => (11, 0, Bytes::new()),
+        Err(refusal) => (13, refusal.path.len() as u64, refusal.path),
+    }
 }
 
 /// One component's stretch, as start and length, for ten lengths and a buffer.
@@ -123,7 +178,7 @@ fn profile(texts: [&[u8]; 4]) -> Result<Profile, Refusal> {
     for (i, text) in texts.iter().enumerate() {
         let long = text.len() > MAX_TEXT || split[i].iter().any(|f| f.len() > MAX_FIELD);
         if long || text.iter().any(|b| !(0x21..=0x7e).contains(b)) {
-            return refuse(1, i + 1);
+            return refuse(1, i as u64 + 1);
         }
     }
     split[3].retain(|option| !option.is_empty());
@@ -178,24 +233,38 @@ impl Set {
 }
 
 struct Rule {
-    line: usize,
     left: Vec<Bytes>,
     right: Vec<Value>,
 }
 
 struct Group {
-    line: usize,
+    /// How many groups were defined before it.
+    before: usize,
     elements: HashSet<Bytes>,
 }
 
-/// A file whose lines are all good.
-pub struct File {
-    groups: HashMap<Bytes, Group>,
-    sets: Vec<Set>,
+/// What the lines of a file are.
+enum Entry {
+    Group,
+    Set(Set),
+    Include(Rc<Reading>),
 }
 
-impl File {
-    /// The names of the groups that the file defines.
+/// One reading of a file.
+struct Reading {
+    entries: Vec<Entry>,
+    /// Whether a group line was read in it or in a file that it includes.
+    defines: bool,
+}
+
+/// A bundle whose lines are all good, with the includes written out.
+pub struct Text {
+    groups: HashMap<Bytes, Group>,
+    first: Rc<Reading>,
+}
+
+impl Text {
+    /// The names of the groups that the text defines.
     pub fn defined(&self) -> HashSet<Bytes> {
         self.groups.keys().cloned().collect()
     }
@@ -203,78 +272,166 @@ impl File {
     /// The names of the groups in its group lines and left words.
     pub fn named(&self) -> HashSet<Bytes> {
         let mut names = self.defined();
-        for rule in self.sets.iter().flat_map(|set| &set.rules) {
-            names.extend(rule.left.iter().filter(|w| w[0] == b'$').cloned());
+        let mut seen: HashSet<*const Reading> = HashSet::new();
+        let mut left = vec![&self.first];
+        while let Some(reading) = left.pop() {
+            for entry in &reading.entries {
+                match entry {
+                    Entry::Group => {}
+                    Entry::Set(set) => {
+                        let words = set.rules.iter().flat_map(|rule| &rule.left);
+                        names.extend(words.filter(|w| w[0] == b'$').cloned());
+                    }
+                    Entry::Include(included) => {
+                        if seen.insert(Rc::as_ptr(included)) {
+                            left.push(included);
+                        }
+                    }
+                }
+            }
         }
         names
     }
 }
 
-/// Reads all lines, or refuses the first bad one.
-pub fn read(rules: &[u8]) -> Result<File, Refusal> {
-    let mut file = File {
-        groups: HashMap::new(),
-        sets: Vec::new(),
-    };
-    let mut in_set = false;
-    for line in split_lines(rules) {
-        if let Err(number) = read_line(line.number, &line, &mut file, &mut in_set) {
-            return refuse(number, line.number);
-        }
-    }
-    Ok(file)
+struct Reader<'a> {
+    files: Vec<bundle::File<'a>>,
+    paths: [&'a [u8]; 3],
+    requests: Requests,
+    /// The first file of each name.
+    names: HashMap<&'a [u8], usize>,
+    groups: HashMap<Bytes, Group>,
+    /// Readings of a file at a depth that define no group. Another such reading
+    /// would find the same.
+    done: HashMap<(usize, usize), Rc<Reading>>,
 }
 
-fn read_line(at: usize, line: &Line, file: &mut File, in_set: &mut bool) -> Result<(), u64> {
+/// Reads all lines, or refuses the bundle, a file too long or the first bad line.
+pub fn read(bundle: &[u8], paths: [&[u8]; 3], requests: Requests) -> Result<Text, Refusal> {
+    let Some(files) = bundle::unpack(bundle) else {
+        return refuse(12, 0);
+    };
+    if let Some(file) = files.iter().position(|file| file.1.len() > MAX_FILE) {
+        return refuse(3, place(file, 0));
+    }
+    let mut names = HashMap::new();
+    for (i, file) in files.iter().enumerate() {
+        names.entry(file.0).or_insert(i);
+    }
+    let mut reader = Reader {
+        files,
+        paths,
+        requests,
+        names,
+        groups: HashMap::new(),
+        done: HashMap::new(),
+    };
+    let first = reader.read_file(0, 0)?;
+    let groups = reader.groups;
+    Ok(Text { groups, first })
+}
+
+impl Reader<'_> {
+    /// Reads a file that is so deep below the first.
+    fn read_file(&mut self, file: usize, depth: usize) -> Result<Rc<Reading>, Refusal> {
+        if let Some(reading) = self.done.get(&(file, depth)) {
+            return Ok(reading.clone());
+        }
+        let groups = self.groups.len();
+        let mut entries = Vec::new();
+        for line in split_lines(self.files[file].1, self.requests.cr_lf) {
+            let at = place(file, line.number);
+            let include = line.heading && line.words.first().is_some_and(|w| w == b"include");
+            if let Err(number) = line_faults(&line) {
+                return refuse(number, at);
+            }
+            if include && self.requests.bundles {
+                let included = self.read_include(&line, at, depth)?;
+                entries.push(Entry::Include(included));
+            } else if let Err(number) = self.read_line(&line, &mut entries) {
+                return refuse(number, at);
+            }
+        }
+        let defines = self.groups.len() > groups;
+        let reading = Rc::new(Reading { entries, defines });
+        if !defines {
+            self.done.insert((file, depth), reading.clone());
+        }
+        Ok(reading)
+    }
+
+    fn read_include(&mut self, line: &Line, at: u64, depth: usize) -> Result<Rc<Reading>, Refusal> {
+        let [_, path] = line.words.as_slice() else {
+            return refuse(6, at);
+        };
+        let Some(path) = bundle::written_path(path, self.paths) else {
+            return refuse(15, at);
+        };
+        let Some(&file) = self.names.get(path.as_slice()) else {
+            return Err(Refusal {
+                number: 13,
+                place: at,
+                path,
+            });
+        };
+        if depth == MAX_DEPTH {
+            return refuse(14, at);
+        }
+        self.read_file(file, depth + 1)
+    }
+
+    /// A line without bad bytes and long words.
+    fn read_line(&mut self, line: &Line, entries: &mut Vec<Entry>) -> Result<(), u64> {
+        match line.words.first() {
+            None if line.heading => return Err(6),
+            None => {}
+            Some(word) if line.heading && word == b"include" => return Err(9),
+            Some(word) if line.heading && word[0] == b'$' => {
+                self.read_group(&line.words)?;
+                entries.push(Entry::Group);
+            }
+            Some(_) if line.heading => entries.push(Entry::Set(read_heading(&line.words)?)),
+            Some(_) => {
+                let Some(Entry::Set(set)) = entries.last_mut() else {
+                    return Err(6);
+                };
+                let rule = read_rule(&line.words, set)?;
+                set.rules.push(rule);
+            }
+        }
+        Ok(())
+    }
+
+    fn read_group(&mut self, words: &[Bytes]) -> Result<(), u64> {
+        let named = words[0].len() > 1;
+        let equals = words.get(1).is_some_and(|word| word == b"=");
+        if !named || !equals || !words[2..].iter().all(|word| ordinary(word)) {
+            return Err(6);
+        }
+        if self.groups.contains_key(&words[0]) || self.groups.len() == MAX_GROUPS {
+            return Err(10);
+        }
+        let group = Group {
+            before: self.groups.len(),
+            elements: words[2..].iter().cloned().collect(),
+        };
+        self.groups.insert(words[0].clone(), group);
+        Ok(())
+    }
+}
+
+fn line_faults(line: &Line) -> Result<(), u64> {
     if line.bad_byte {
         return Err(4);
     }
     if line.words.iter().any(|word| word.len() > MAX_WORD) {
         return Err(5);
     }
-    match line.words.first() {
-        None if line.heading => Err(6),
-        None => Ok(()),
-        Some(word) if line.heading && word == b"include" => Err(9),
-        Some(word) if line.heading && word[0] == b'$' => {
-            *in_set = false;
-            read_group(at, &line.words, file)
-        }
-        Some(_) if line.heading => {
-            file.sets.push(read_heading(&line.words)?);
-            *in_set = true;
-            Ok(())
-        }
-        Some(_) => match file.sets.last_mut() {
-            Some(set) if *in_set => {
-                let rule = read_rule(at, &line.words, set)?;
-                set.rules.push(rule);
-                Ok(())
-            }
-            _ => Err(6),
-        },
-    }
+    Ok(())
 }
 
 fn ordinary(word: &[u8]) -> bool {
     word != b"=" && !matches!(word[0], b'!' | b'$' | b'*')
-}
-
-fn read_group(at: usize, words: &[Bytes], file: &mut File) -> Result<(), u64> {
-    let named = words[0].len() > 1;
-    let equals = words.get(1).is_some_and(|word| word == b"=");
-    if !named || !equals || !words[2..].iter().all(|word| ordinary(word)) {
-        return Err(6);
-    }
-    if file.groups.contains_key(&words[0]) || file.groups.len() == MAX_GROUPS {
-        return Err(10);
-    }
-    let group = Group {
-        line: at,
-        elements: words[2..].iter().cloned().collect(),
-    };
-    file.groups.insert(words[0].clone(), group);
-    Ok(())
 }
 
 fn read_heading(words: &[Bytes]) -> Result<Set, u64> {
@@ -331,7 +488,7 @@ fn left_item(word: &[u8]) -> Option<(Left, Option<Bytes>)> {
     known.then(|| (item, Some(index.to_vec())))
 }
 
-fn read_rule(at: usize, words: &[Bytes], set: &Set) -> Result<Rule, u64> {
+fn read_rule(words: &[Bytes], set: &Set) -> Result<Rule, u64> {
     let equals = set.left.len();
     if words.len() != equals + 1 + set.right.len() || words[equals] != b"=" {
         return Err(6);
@@ -346,7 +503,6 @@ fn read_rule(at: usize, words: &[Bytes], set: &Set) -> Result<Rule, u64> {
         values.push(read_value(word, set.index_word()).ok_or(8u64)?);
     }
     Ok(Rule {
-        line: at,
         left: left.to_vec(),
         right: values,
     })
@@ -355,7 +511,7 @@ fn read_rule(at: usize, words: &[Bytes], set: &Set) -> Result<Rule, u64> {
 // The walk.
 
 /// One component: the string under the stepwise update, and its two texts.
-#[derive(Default)]
+#[derive(Clone, Default)]
 struct Component {
     string: Bytes,
     base: Bytes,
@@ -385,31 +541,118 @@ impl Component {
     }
 }
 
-fn walk(file: &File, profile: &Profile) -> [Bytes; 10] {
-    let mut components: [Component; 5] = Default::default();
-    for set in &file.sets {
-        for matched in matched_layouts(set, profile.layouts.len()) {
-            for rule in &set.rules {
-                if !rule_matches(rule, set, file, profile, matched) {
-                    continue;
-                }
-                for (component, value) in set.right.iter().zip(&rule.right) {
-                    components[*component].update(&expand(value, profile, matched));
-                }
-                if !set.has(Left::Option) {
-                    break;
+type Components = [Component; 5];
+
+struct Walk<'a> {
+    text: &'a Text,
+    profile: &'a Profile,
+    requests: Requests,
+    /// How many groups are defined so far.
+    defined: usize,
+    /// What a reading without group lines fires after so many groups.
+    fired: HashMap<(*const Reading, usize), Rc<Components>>,
+}
+
+/// None where the additions alone are over the largest total.
+fn walk(text: &Text, profile: &Profile, requests: Requests) -> Option<[Bytes; 10]> {
+    let mut walk = Walk {
+        text,
+        profile,
+        requests,
+        defined: 0,
+        fired: HashMap::new(),
+    };
+    let components = walk.reading(&text.first)?;
+    let mut texts: [Bytes; 10] = Default::default();
+    for (i, component) in components.iter().enumerate() {
+        let both = [component.base.as_slice(), &component.additions].concat();
+        assert!(both == component.string, "the stepwise string differs");
+        texts[2 * i] = component.base.clone();
+        texts[2 * i + 1] = component.additions.clone();
+    }
+    Some(texts)
+}
+
+impl Walk<'_> {
+    /// What one reading of a file fires.
+    fn reading(&mut self, reading: &Rc<Reading>) -> Option<Rc<Components>> {
+        let key = (Rc::as_ptr(reading), self.defined);
+        if let Some(fired) = self.fired.get(&key) {
+            return Some(fired.clone());
+        }
+        let mut components = Components::default();
+        for entry in &reading.entries {
+            match entry {
+                Entry::Group => self.defined += 1,
+                Entry::Set(set) => self.set(set, &mut components)?,
+                Entry::Include(included) => {
+                    let fired = self.reading(included)?;
+                    for (component, fired) in components.iter_mut().zip(fired.iter()) {
+                        component.update(&fired.base);
+                        component.update(&fired.additions);
+                    }
+                    within(&components)?;
                 }
             }
         }
+        let fired = Rc::new(components);
+        if !reading.defines {
+            self.fired.insert(key, fired.clone());
+        }
+        Some(fired)
     }
-    let mut texts: [Bytes; 10] = Default::default();
-    for (i, component) in components.into_iter().enumerate() {
-        let both = [component.base.as_slice(), &component.additions].concat();
-        assert!(both == component.string, "the stepwise string differs");
-        texts[2 * i] = component.base;
-        texts[2 * i + 1] = component.additions;
+
+    fn set(&self, set: &Set, components: &mut Components) -> Option<()> {
+        for (rule, layout) in self.firings(set) {
+            for (component, value) in set.right.iter().zip(&rule.right) {
+                components[*component].update(&expand(value, self.profile, layout));
+            }
+            within(components)?;
+        }
+        Some(())
     }
-    texts
+
+    /// The rules that fire and the layouts at which they do, in their order.
+    fn firings<'s>(&self, set: &'s Set) -> Vec<(&'s Rule, usize)> {
+        let layouts = matched_layouts(set, self.profile.layouts.len());
+        let matches = |rule: &&Rule, layout: usize| self.rule_matches(rule, set, layout);
+        let mut fired = Vec::new();
+        if set.has(Left::Option) && self.requests.order {
+            for rule in &set.rules {
+                let layouts = layouts.iter().filter(|&&layout| matches(&rule, layout));
+                fired.extend(layouts.map(|&layout| (rule, layout)));
+            }
+            return fired;
+        }
+        let most = if set.has(Left::Option) { usize::MAX } else { 1 };
+        for layout in layouts {
+            let rules = set.rules.iter().filter(|rule| matches(rule, layout));
+            fired.extend(rules.take(most).map(|rule| (rule, layout)));
+        }
+        fired
+    }
+
+    fn rule_matches(&self, rule: &Rule, set: &Set, matched: usize) -> bool {
+        let profile = self.profile;
+        set.left.iter().zip(&rule.left).all(|(item, word)| {
+            let equal = |value: &Bytes| match self.text.groups.get(word) {
+                Some(group) => group.before < self.defined && group.elements.contains(value),
+                None => ordinary(word) && word == value,
+            };
+            match item {
+                Left::Model => word == b"*" || equal(&profile.model),
+                Left::Option => word == b"*" || profile.options.iter().any(equal),
+                Left::Layout => place_matches(word, &profile.layouts[matched - 1], equal),
+                Left::Variant => place_matches(word, &profile.variants[matched - 1], equal),
+            }
+        })
+    }
+}
+
+/// Additions only grow, and with them the total.
+fn within(components: &Components) -> Option<()> {
+    let total: usize = components.iter().map(|c| c.additions.len()).sum();
+    (total <= MAX_TOTAL).then_some(())
 }
 
 /// The layouts at which a set runs; 0 stands for a set without one.
@@ -429,21 +672,6 @@ fn matched_layouts(set: &Set, count: usize) -> Vec<usize> {
         }
         _ => Vec::new(),
     }
-}
-
-fn rule_matches(rule: &Rule, set: &Set, file: &File, profile: &Profile, matched: usize) -> bool {
-    set.left.iter().zip(&rule.left).all(|(item, word)| {
-        let equal = |value: &Bytes| match file.groups.get(word) {
-            Some(group) => group.line < rule.line && group.elements.contains(value),
-            None => ordinary(word) && word == value,
-        };
-        match item {
-            Left::Model => word == b"*" || equal(&profile.model),
-            Left::Option => word == b"*" || profile.options.iter().any(equal),
-            Left::Layout => place_matches(word, &profile.layouts[matched - 1], equal),
-            Left::Variant => place_matches(word, &profile.variants[matched - 1], equal),
-        }
-    })
 }
 
 fn place_matches(word: &[u8], value: &Bytes, equal: impl Fn(&Bytes) -> bool) -> bool {

@@ -120,7 +120,7 @@ pub fn run(path: &str, list: &str) -> Result<u64, String> {
     let tally = run_plain("stock", &cases);
     let (refused, found) = (tally.cases - tally.answers[0], tally.failures.len());
     for case in cases.iter().filter(|c| c.second().number != 0).take(3) {
-        let profile = case.inputs[1..].join(&b' ');
+        let profile = case.profile().join(&b' ');
         println!("{path}: refused: {}", escape(&profile));
     }
     println!(

@@ -319,7 +319,7 @@ fn example_rows() -> Vec<Row> {
         symbols("", ["", &layouts(4), "", ""], ""),
         Row::Refused(Case::text("", ["", &layouts(5), "", ""], ROOM), 2, 2),
         symbols(&long(256), [""; 4], &"x".repeat(256)),
-        Row::Refused(Case::text(&long(257), [""; 4], ROOM), 5, 2),
+        Row::Refused(Case::text(&long(257), [""; 4], ROOM), 5, (1 << 32) + 2),
         symbols("", [""; 4], ""),
         Row::Strings(program, PROGRAM_STRINGS.map(String::from)),
     ]

@@ -10,9 +10,14 @@ pub struct Line {
     pub words: Vec<Bytes>,
 }
 
-/// A line end is LF, with a CR directly before it if there is one.
-pub fn split_lines(rules: &[u8]) -> Vec<Line> {
-    let physical: Vec<&[u8]> = rules.split(|&b| b == b'\n').collect();
+/// With `cr_lf` (document 02, #103), a CR directly before LF belongs to the
+/// line end.
+pub fn split_lines(rules: &[u8], cr_lf: bool) -> Vec<Line> {
+    let mut physical: Vec<&[u8]> = rules.split(|&b| b == b'\n').collect();
+    let last = physical.len() - 1;
+    for line in physical[..last].iter_mut().filter(|_| cr_lf) {
+        *line = line.strip_suffix(b"\r").unwrap_or(line);
+    }
     let mut lines = Vec::new();
     let mut next = 0;
     while next < physical.len() {
@@ -24,11 +29,7 @@ pub fn split_lines(rules: &[u8]) -> Vec<Line> {
         };
         loop {
             let ends_with_lf = next + 1 < physical.len();
-            let content = match physical[next] {
-                [before @ .., b'\r'] if ends_with_lf => before,
-                whole => whole,
-            };
-            let joins = split_words(content, ends_with_lf, &mut line);
+            let joins = split_words(physical[next], ends_with_lf, &mut line);
             next += 1;
             if !joins {
                 break;
@@ -74,8 +75,8 @@ fn word_length(rest: &[u8], ends_with_lf: bool) -> usize {
 }
 
 /// Empty, or its last newline really ends a line.
-pub fn ends_a_line(rules: &[u8]) -> bool {
+pub fn ends_a_line(rules: &[u8], cr_lf: bool) -> bool {
     let count = rules.iter().filter(|&&b| b == b'\n').count();
-    let last = split_lines(rules).pop().map(|line| line.number);
+    let last = split_lines(rules, cr_lf).pop().map(|line| line.number);
     rules.is_empty() || (rules.ends_with(b"\n") && last == Some(count + 1))
 }

@@ -1,5 +1,0 @@
-pub mod Groups
-pub mod Rows
-pub mod Ranges
-pub mod Held
-pub mod Left
