@@ -11,7 +11,7 @@ use Rattle.text.specs.declared.Refusal.{Refusal}
 use Rattle.text.specs.declared.Place.{Place}
 use Rattle.text.specs.declared.Place.the-variants.{Start}
 use Rattle.text.specs.Limits.{longestFile, mostGroups}
-use Rattle.text.specs.Bytes.{Text, first, allOf, concatMap}
+use Rattle.text.specs.Bytes.{Text, first, rest, allOf, concatMap}
 use Rattle.text.specs.Marks.{Mark, char, gap, join, bang, end, step, marks}
 use Rattle.text.specs.Lines.{Line, feeds, inside, linesOf, lines}
 use Rattle.text.specs.Refusals.{refusedIf, refusedAs}
@@ -30,7 +30,7 @@ use Rattle.answers.proofs.Answers.{answered}
 marks-length : (p : Place) (s : Text) → length (marks p s) ≡ length s
 unfolding marks
 marks-length p [] = refl
-marks-length p (b ∷ r) = ap suc (marks-length (step p b (first r) .1) r)
+marks-length p (b ∷ r) = ap suc (marks-length (step p b (first r) (first (rest r)) .1) r)
 
 feeds-few : (y : Mark) → feeds y ≤ 1
 unfolding feeds

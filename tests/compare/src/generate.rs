@@ -169,20 +169,6 @@ const BETWEEN: &[&str] = &[
 ];
 const MARKS: &[&str] = &["! ", "! ", "!", " ! ", "\t!\t", "!\\\n", "\\\n!"];
 
-/// Every LF made CR LF, or some of them.
-fn with_returns(rng: &mut Prng, text: &str) -> String {
-    if rng.chance(60) {
-        return text.replace('\n', "\r\n");
-    }
-    let lines: Vec<&str> = text.split('\n').collect();
-    let mut mixed = String::from(lines[0]);
-    for line in &lines[1..] {
-        mixed += rng.pick(&["\n", "\r\n"]);
-        mixed += line;
-    }
-    mixed
-}
-
 /// Writes the lines out.
 pub fn write(rng: &mut Prng, rows: &[Row]) -> Vec<u8> {
     let plain = rng.chance(30);
@@ -203,9 +189,6 @@ pub fn write(rng: &mut Prng, rows: &[Row]) -> Vec<u8> {
             text += rng.pick(ENDS);
         }
         text.push('\n');
-    }
-    if rng.chance(20) {
-        text = with_returns(rng, &text);
     }
     if rng.chance(10) {
         text.pop();

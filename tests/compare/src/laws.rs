@@ -41,7 +41,7 @@ struct Law {
     look: fn(&Pair) -> Outcome,
 }
 
-const LAWS: [Law; 4] = [
+const LAWS: [Law; 3] = [
     Law {
         name: "joined files",
         other: "second file",
@@ -53,12 +53,6 @@ const LAWS: [Law; 4] = [
         other: "other options",
         make: make_options,
         look: options,
-    },
-    Law {
-        name: "CR LF for LF",
-        inputs: &["rules", "model", "layouts", "variants", "options"],
-        make: make_returns,
-        look: returns,
     },
     Law {
         name: "call after a call",
@@ -214,40 +208,6 @@ fn joined(pair: &Pair) -> Outcome {
         format!("first:  {}", answer_row(&one)),
         format!("second: {}", answer_row(&two)),
         format!("joined: {}", answer_row(&seen)),
-    ])
-}
-
-// Every LF made CR LF.
-
-fn make_returns(rng: &mut Prng) -> (Vec<Vec<u8>>, usize) {
-    let (seed, index) = (rng.next(), rng.next());
-    let mut case = generate::case(seed, index);
-    case.inputs[0].retain(|&b| b != b'\r');
-    (case.inputs.to_vec(), case.room)
-}
-
-fn returns(inputs: &[Vec<u8>], room: usize) -> Outcome {
-    let [rules, model, layouts, variants, options] = inputs else {
-        return Outcome::Skipped;
-    };
-    let mut others = Vec::new();
-    for &byte in rules {
-        if byte == b'\n' {
-            others.push(b'\r');
-        }
-        others.push(byte);
-    }
-    if rules.contains(&b'\r') || others.len() > 65_536 {
-        return Outcome::Skipped;
-    }
-    let part = |rules| Case::of(&[rules, model, layouts, variants, options], room);
-    let (one, two) = (call(&part(rules), 44, 9), call(&part(&others), 44, 9));
-    if one.same(&two) {
-        return Outcome::Holds;
-    }
-    Outcome::Broken(vec![
-        format!("with LF:    {}", answer_row(&one.answer())),
-        format!("with CR LF: {}", answer_row(&two.answer())),
     ])
 }
 

@@ -43,7 +43,6 @@ const FILES: [(&str, &[u8], Requests); 7] = [
         include_bytes!("../vectors/105.tsv"),
         Requests::ALL,
     ),
-    ("103.tsv", include_bytes!("../vectors/103.tsv")),
 ];
 
 const CHECKS: &[u8] = include_bytes!("../vectors/101-check.tsv");

@@ -29,11 +29,7 @@ pub fn split_lines(rules: &[u8], cr_lf: bool) -> Vec<Line> {
         };
         loop {
             let ends_with_lf = next + 1 < physical.len();
-            let content = match physical[next] {
-                [before @ .., b'\r'] if ends_with_lf => before,
-                whole => whole,
-            };
-            let joins = split_words(content, ends_with_lf, &mut line);
+            let joins = split_words(physical[next], ends_with_lf, &mut line);
             next += 1;
             if !joins {
                 break;
