@@ -14,7 +14,6 @@ use super::Opening;
 use super::Plain;
 use super::WordAt;
 use super::bytes::bad_byte;
-use super::bytes::ends_line;
 use super::bytes::in_word;
 use super::bytes::kind;
 use super::bytes::level;
@@ -254,7 +253,10 @@ fn ends_plain(s: &[u8], t: &[u8; 512], fence: usize, i: usize) -> bool
     if kind(t, b) <= 2 {
         return true;
     }
-    ends_line(b, peek(s, i + 1))
+    if b != 13 {
+        return false;
+    }
+    s[i + 1] == 10
 }
 
 pub fn next_fast(s: &[u8], t: &[u8; 512], fence: usize, from: usize, line: usize) -> Fast

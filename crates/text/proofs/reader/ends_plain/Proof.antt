@@ -1,10 +1,25 @@
 use borrow.Author.Needs.{needs}
-use mathlib.Core.Path.{refl, sym, _∙_}
-use borrow.Author.Tests.{le-leb, lt-leb}
-use Rattle.text.specs.Reading.{endsPlain}
-use Rattle.text.proofs.Readers.{at-most, over-level}
+use native.Mathlib.Omega.{arith}
+use Prim.Native.Nat.{ℕ, _<_}
+use mathlib.Core.Path.{_≡_, refl, sym, ap, _∙_}
+use mathlib.Core.Bool.{false}
+use lib.Dec.{eqb}
+use borrow.Author.Tests.{le-leb, lt-leb, eq-eqb, ne-eqb}
+use Rattle.text.specs.Marks.{endsLine}
+use Rattle.text.specs.Reading.{endsPlain, kindOf}
+use Rattle.text.proofs.Positions.{first-drop}
+use Rattle.text.proofs.ByteKinds.{differ}
+use Rattle.text.proofs.Readers.{at-most, over-level, fence-in, fence-more}
 use Rattle.text.proofs.reader.ends_plain.Statement.{statement}
 use Rattle.text.proofs.reader.ends_plain.Tie as tie
+
+feed-kind : kindOf 10 ≡ 2
+unfolding kindOf
+feed-kind = refl
+
+-- a byte of another kind is no LF
+no-feed : (b : ℕ) → 2 < kindOf b → eqb b 10 ≡ false
+no-feed b h = ne-eqb b 10 (λ e. let z : kindOf b ≡ 2 = ap kindOf e ∙ feed-kind in omega (arith, z))
 
 shared-slice-read-b : tie.Need-shared-slice-read-b
 shared-slice-read-b c = search needs
@@ -14,22 +29,38 @@ kind-requires c κs = search needs
 
 returns : tie.Need-returns
 unfolding endsPlain
-returns c = rw (le-leb _ _ (at-most _ _ _ (c .before .kind .ensures) (c .if1 .taken))) refl
-
-add-peek : tie.Need-add-peek
-add-peek c = search needs
-
-peek-requires : tie.Need-peek-requires
-peek-requires c κs = search needs
-
-ends-line-requires : tie.Need-ends-line-requires
-ends-line-requires c κs = search needs
+returns c =
+    let the-kind = c .before .kind in
+    let the-if1 = c .if1 in
+    rw (le-leb _ _ (at-most _ _ _ (the-kind .ensures) (the-if1 .taken))) refl
 
 returns-2 : tie.Need-returns-2
-unfolding endsPlain
+unfolding endsPlain endsLine
 returns-2 c =
+    let the-kind = c .before .before .kind in
+    let the-if1 = c .before .if1 in
+    let the-if2 = c .if2 in
+    let h = over-level _ _ _ (the-kind .ensures) (the-if1 .left) in
+    rw (lt-leb _ _ h, no-feed _ h, ne-eqb _ _ (the-if2 .taken)) refl
+
+add-result : tie.Need-add-result
+add-result c = search needs
+
+shared-slice-read-result : tie.Need-shared-slice-read-result
+shared-slice-read-result c =
+    let start = c .before .before .before .before .before .before in
+    let the-if2 = c .before .if2 in
+    let v = start .pre .1 .1 in
+    fence-in _ _ _ v (fence-more _ _ _ v (start .pre .0) (differ _ 13 10 refl (the-if2 .left)))
+
+returns-3 : tie.Need-returns-3
+unfolding endsPlain endsLine
+returns-3 c =
     let the-kind = c .before .before .before .kind in
-    rw (lt-leb _ _ (over-level _ _ _ (the-kind .ensures) (c .before .before .if1 .left)), ← c .before .peek .ensures) (c .ends-line .ensures)
+    let the-if1 = c .before .before .if1 in
+    let the-if2 = c .before .if2 in
+    let h = over-level _ _ _ (the-kind .ensures) (the-if1 .left) in
+    rw (lt-leb _ _ h, no-feed _ h, eq-eqb _ _ (the-if2 .left), first-drop _ _) refl
 
 pub ends-plain-spec : {M : Type 1} → statement M
 ends-plain-spec =
@@ -38,7 +69,7 @@ ends-plain-spec =
     shared-slice-read-b
     kind-requires
     returns
-    add-peek
-    peek-requires
-    ends-line-requires
-    returns-2)
+    returns-2
+    add-result
+    shared-slice-read-result
+    returns-3)
