@@ -78,39 +78,59 @@ plain-in-word b c d h =
     go false true false = refl
     go false false v = refl
 
-abbrev pub pick : Bool → Bool → Bool → Bool → Bool → ℕ
-pick t u v w x = cond t 1 (cond u 1 (cond v 2 (cond w 3 (cond x 3 0))))
+abbrev pub pick : Bool → Bool → Bool → Bool → Bool → Bool → ℕ
+pick t u v w x y = cond t 1 (cond u 1 (cond v 2 (cond w (cond y 4 3) (cond x 3 0))))
+
+-- the kind of CR is its own
+pub kind-return : kindOf 13 ≡ 4
+unfolding kindOf badByte
+kind-return = refl
+
+pub kind-four : (b : ℕ) → kindOf b ≡ 4 → b ≡ 13
+unfolding kindOf
+kind-four b h = go (eqb b 32) (eqb b 9) (eqb b 10) (badByte b) (eqb b 47) (eqb b 13) refl h
+  where
+    go : (t u v w x y : Bool) → eqb b 13 ≡ y → pick t u v w x y ≡ 4 → b ≡ 13
+    go true u v w x y p e = absurd (eqb-false 1 4 refl e)
+    go false true v w x y p e = absurd (eqb-false 1 4 refl e)
+    go false false true w x y p e = absurd (eqb-false 2 4 refl e)
+    go false false false true x true p e = eqb-true b 13 p
+    go false false false true x false p e = absurd (eqb-false 3 4 refl e)
+    go false false false false true y p e = absurd (eqb-false 3 4 refl e)
+    go false false false false false y p e = absurd (eqb-false 0 4 refl e)
 
 pub kind-one : (b c d : ℕ) → kindOf b ≡ 1 → (Blank ≡ classOf b c d) × (eqb b 10 ≡ false)
 unfolding kindOf classOf
-kind-one b c d h = go (eqb b 32) (eqb b 9) (eqb b 10) (badByte b) (eqb b 47) refl refl refl h
+kind-one b c d h = go (eqb b 32) (eqb b 9) (eqb b 10) (badByte b) (eqb b 47) (eqb b 13) refl refl refl h
   where
-    go : (t u v w x : Bool) → eqb b 32 ≡ t → eqb b 9 ≡ u → eqb b 10 ≡ v → pick t u v w x ≡ 1 →
+    go : (t u v w x y : Bool) → eqb b 32 ≡ t → eqb b 9 ≡ u → eqb b 10 ≡ v → pick t u v w x y ≡ 1 →
         (Blank ≡
         cond t Blank (cond u Blank (cond (eqb b 33) Bang (cond (eqb b 92) (cond (endsLine c d) Join Other) (cond (eqb b 47) (cond (eqb c 47) Slashes Other) (cond (endsLine b c) Blank Other)))))) ×
         (v ≡ false)
-    go true u v w x p q r e = (refl, sym r ∙ rw (eqb-true b 32 p) refl)
-    go false true v w x p q r e = (refl, sym r ∙ rw (eqb-true b 9 q) refl)
-    go false false true w x p q r e = absurd (eqb-false 2 1 refl e)
-    go false false false true x p q r e = absurd (eqb-false 3 1 refl e)
-    go false false false false true p q r e = absurd (eqb-false 3 1 refl e)
-    go false false false false false p q r e = absurd (eqb-false 0 1 refl e)
+    go true u v w x y p q r e = (refl, sym r ∙ rw (eqb-true b 32 p) refl)
+    go false true v w x y p q r e = (refl, sym r ∙ rw (eqb-true b 9 q) refl)
+    go false false true w x y p q r e = absurd (eqb-false 2 1 refl e)
+    go false false false true x true p q r e = absurd (eqb-false 4 1 refl e)
+    go false false false true x false p q r e = absurd (eqb-false 3 1 refl e)
+    go false false false false true y p q r e = absurd (eqb-false 3 1 refl e)
+    go false false false false false y p q r e = absurd (eqb-false 0 1 refl e)
 
 -- a word ends before a blank or LF, and before CR LF
 
 kind-stop : (b c d : ℕ) → badByte b ≡ true → kindOf b ≤ 2 → inWord b c d ≡ false
 unfolding kindOf inWord wordly classOf
-kind-stop b c d = go (eqb b 32) (eqb b 9) (eqb b 10) (badByte b) (eqb b 47)
+kind-stop b c d = go (eqb b 32) (eqb b 9) (eqb b 10) (badByte b) (eqb b 47) (eqb b 13)
   where
-    go : (t u v w x : Bool) → w ≡ true → pick t u v w x ≤ 2 →
+    go : (t u v w x y : Bool) → w ≡ true → pick t u v w x y ≤ 2 →
         cond v false (wordly (cond t Blank (cond u Blank (cond (eqb b 33) Bang (cond (eqb b 92) (cond (endsLine c d) Join Other) (cond x (cond (eqb c 47) Slashes Other) (cond (endsLine b c) Blank Other))))))) ≡ false
-    go true u true w x h e = refl
-    go true u false w x h e = refl
-    go false true true w x h e = refl
-    go false true false w x h e = refl
-    go false false true w x h e = refl
-    go false false false true x h e = let z : _≡_ {A = ℕ} 0 1 = omega (arith, e) in absurd (eqb-false 0 1 refl z)
-    go false false false false x h e = absurd (no h)
+    go true u true w x y h e = refl
+    go true u false w x y h e = refl
+    go false true true w x y h e = refl
+    go false true false w x y h e = refl
+    go false false true w x y h e = refl
+    go false false false true x true h e = let z : _≡_ {A = ℕ} 0 1 = omega (arith, e) in absurd (eqb-false 0 1 refl z)
+    go false false false true x false h e = let z : _≡_ {A = ℕ} 0 1 = omega (arith, e) in absurd (eqb-false 0 1 refl z)
+    go false false false false x y h e = absurd (no h)
 
 line-stop : (b c d : ℕ) → endsLine b c ≡ true → inWord b c d ≡ false
 unfolding inWord wordly classOf endsLine
@@ -130,19 +150,19 @@ low-ends b c h = rw (le-leb _ _ h)
 
 kind-bad : (b : ℕ) → (kindOf b ≡ 0 → ⊥) → kindOf b ≤ 2 → badByte b ≡ true
 unfolding kindOf badByte
-kind-bad b = go (eqb b 32) (eqb b 9) (eqb b 10) (eqb b 47) refl refl refl
+kind-bad b = go (eqb b 32) (eqb b 9) (eqb b 10) (eqb b 47) (eqb b 13) refl refl refl
   where
-    go : (t u v x : Bool) → eqb b 32 ≡ t → eqb b 9 ≡ u → eqb b 10 ≡ v → (pick t u v (badByte b) x ≡ 0 → ⊥) → pick t u v (badByte b) x ≤ 2 → badByte b ≡ true
-    go true u v x p q r n l = rw (eqb-true b 32 p) refl
-    go false true v x p q r n l = rw (eqb-true b 9 q) refl
-    go false false true x p q r n l = rw (eqb-true b 10 r) refl
-    go false false false x p q r n l = bad (badByte b) refl n l
+    go : (t u v x y : Bool) → eqb b 32 ≡ t → eqb b 9 ≡ u → eqb b 10 ≡ v → (pick t u v (badByte b) x y ≡ 0 → ⊥) → pick t u v (badByte b) x y ≤ 2 → badByte b ≡ true
+    go true u v x y p q r n l = rw (eqb-true b 32 p) refl
+    go false true v x y p q r n l = rw (eqb-true b 9 q) refl
+    go false false true x y p q r n l = rw (eqb-true b 10 r) refl
+    go false false false x y p q r n l = bad (badByte b) refl n l
       where
-        bad : (w : Bool) → badByte b ≡ w → (pick false false false w x ≡ 0 → ⊥) → pick false false false w x ≤ 2 → badByte b ≡ true
+        bad : (w : Bool) → badByte b ≡ w → (pick false false false w x y ≡ 0 → ⊥) → pick false false false w x y ≤ 2 → badByte b ≡ true
         bad true e n l = e
         bad false e n l = slash x n l
           where
-            slash : (y : Bool) → (pick false false false false y ≡ 0 → ⊥) → pick false false false false y ≤ 2 → badByte b ≡ true
+            slash : (z : Bool) → (pick false false false false z y ≡ 0 → ⊥) → pick false false false false z y ≤ 2 → badByte b ≡ true
             slash true n l = absurd (omega (arith, l))
             slash false n l = absurd (n refl)
 
@@ -185,15 +205,16 @@ begins-char b c d h = go (eqb b 32) (eqb b 9) (eqb b 33) (eqb b 92) (endsLine c 
 -- a byte of kind 0
 pub kind-zero : (b c d : ℕ) → kindOf b ≡ 0 → Begins b c d × (badByte b ≡ false)
 unfolding kindOf
-kind-zero b c d h = go (eqb b 32) (eqb b 9) (eqb b 10) (badByte b) (eqb b 47) refl refl refl h
+kind-zero b c d h = go (eqb b 32) (eqb b 9) (eqb b 10) (badByte b) (eqb b 47) (eqb b 13) refl refl refl h
   where
-    go : (t u v w x : Bool) → eqb b 10 ≡ v → badByte b ≡ w → eqb b 47 ≡ x → pick t u v w x ≡ 0 → Begins b c d × (badByte b ≡ false)
-    go true u v w x p q r e = absurd (eqb-false 1 0 refl e)
-    go false true v w x p q r e = absurd (eqb-false 1 0 refl e)
-    go false false true w x p q r e = absurd (eqb-false 2 0 refl e)
-    go false false false true x p q r e = absurd (eqb-false 3 0 refl e)
-    go false false false false true p q r e = absurd (eqb-false 3 0 refl e)
-    go false false false false false p q r e = (
+    go : (t u v w x y : Bool) → eqb b 10 ≡ v → badByte b ≡ w → eqb b 47 ≡ x → pick t u v w x y ≡ 0 → Begins b c d × (badByte b ≡ false)
+    go true u v w x y p q r e = absurd (eqb-false 1 0 refl e)
+    go false true v w x y p q r e = absurd (eqb-false 1 0 refl e)
+    go false false true w x y p q r e = absurd (eqb-false 2 0 refl e)
+    go false false false true x true p q r e = absurd (eqb-false 4 0 refl e)
+    go false false false true x false p q r e = absurd (eqb-false 3 0 refl e)
+    go false false false false true y p q r e = absurd (eqb-false 3 0 refl e)
+    go false false false false false y p q r e = (
       record {
         blank = λ k. eqb-false 0 1 refl (sym h ∙ k);
         feed = plain-goes-on b c q;

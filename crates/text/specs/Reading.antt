@@ -64,9 +64,9 @@ lower (suc f) (suc g) = suc (min f g)
 unfoldable pub levelOf : ℕ → ℕ
 levelOf b = cond (badByte b) 2 (cond (eqb b 37) 1 0)
 
--- the kind of a byte: 0 a plain byte that is no slash, 1 a blank, 2 LF, 3 any other
+-- the kind of a byte: 0 a plain byte that is no slash, 1 a blank, 2 LF, 4 CR, 3 any other
 unfoldable pub kindOf : ℕ → ℕ
-kindOf b = cond (eqb b 32) 1 (cond (eqb b 9) 1 (cond (eqb b 10) 2 (cond (badByte b) 3 (cond (eqb b 47) 3 0))))
+kindOf b = cond (eqb b 32) 1 (cond (eqb b 9) 1 (cond (eqb b 10) 2 (cond (badByte b) (cond (eqb b 13) 4 3) (cond (eqb b 47) 3 0))))
 
 -- the byte b with c behind it begins a plain word: a byte of kind 0, or a slash that begins no comment
 unfoldable pub beginsPlain : ℕ → ℕ → Bool

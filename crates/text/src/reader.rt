@@ -249,11 +249,11 @@ fn ends_plain(s: &[u8], t: &[u8; 512], fence: usize, i: usize) -> bool
     requires { ⌜ (i < fence) × (Table (now t) × Fenced (now s) fence) ⌝ }
     ensures { λ r. ⌜ r ≡ endsPlain (getD (now (s .entry)) i 0) (first (drop (i + 1) (now (s .entry)))) ⌝ }
 {
-    let b = s[i];
-    if kind(t, b) <= 2 {
+    let k = kind(t, s[i]);
+    if k <= 2 {
         return true;
     }
-    if b != 13 {
+    if k != 4 {
         return false;
     }
     s[i + 1] == 10
