@@ -1,6 +1,7 @@
 // A line of a rules file, judged as it is read.
 
 pub mod group;
+pub mod ranges;
 pub mod rule;
 pub mod set;
 
@@ -68,4 +69,10 @@ pub struct GroupLine {
     pub row: Row,
     pub next: usize,
     pub after: usize,
+}
+
+// Layouts by their numbers: `count` of them, from `first` on.
+pub struct Range {
+    pub first: usize,
+    pub count: usize,
 }

@@ -13,4 +13,3 @@ pub mod GroupHeads
 pub mod Parts
 pub mod FileReads
 pub mod ProfileReads
-pub mod LayoutRange

@@ -19,10 +19,10 @@ use Rattle.answers.specs.Matching.{members, isOptions}
 use Rattle.answers.specs.Layouts.{layoutsOf, perLayout}
 use Rattle.answers.specs.Firings.{Firing, setFires, ruleByRule, headFires}
 use Rattle.bitsets.specs.Sets.{isIn, Spans}
-use Rattle.reading.specs.declared.Range.{Range}
+use Rattle.judging.specs.declared.Range.{Range}
 use Rattle.rules.specs.Held.{headingBy, SetSized, FromOne}
 use Rattle.rules.proofs.HeldHeadings.{columns-length, components-length}
-use Rattle.reading.proofs.LayoutRange.{range-within, range-single}
+use Rattle.judging.proofs.LayoutRange.{range-within, range-single}
 use Rattle.reading.specs.declared.OpenSet.{OpenSet}
 use Rattle.reading.specs.Owed.{Kept, AllWanted, owedAt, setOwes}
 use Rattle.reading.specs.Seeking.{SetOpen}

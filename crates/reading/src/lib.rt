@@ -6,7 +6,6 @@ pub mod keep;
 pub mod left;
 pub mod opening;
 pub mod profiled;
-pub mod ranges;
 pub mod seek;
 pub mod states;
 
@@ -23,12 +22,6 @@ pub struct OpenSet {
     pub count: usize,
     pub every: bool,
     pub wanted: u64,
-}
-
-// Layouts by their numbers: `count` of them, from `first` on.
-pub struct Range {
-    pub first: usize,
-    pub count: usize,
 }
 
 // The layouts at which the left words so far match, where the last of them ends, and the physical line there.

@@ -19,7 +19,9 @@ same-length : tie.Need-same-length
 same-length c = search needs
 
 returns-2 : tie.Need-returns-2
-returns-2 c = few-one _ _ _ _ _ (c .before .before .before .pre .1) (c .if2 .taken)
+returns-2 c =
+    let start = c .before .before .before in
+    few-one _ _ _ _ _ (start .pre .1) (c .if2 .taken)
 
 add-out : tie.Need-add-out
 add-out c = search needs
@@ -31,13 +33,18 @@ add-out-2 : tie.Need-add-out-2
 add-out-2 c = search needs
 
 slice-write-out-2 : tie.Need-slice-write-out-2
-slice-write-out-2 c = set-inside (c .before .before .before .before .args .out .now) (c .before .before .before .before .args .start) (getD (c .before .before .before .before .args .s .now) (c .before .before .before .before .args .from) 0) _ (copy-inside _ _ _ 1 (c .before .before .before .before .pre .2) (omega (arith, c .before .if2 .left, c .before .before .before .if1 .left)))
+slice-write-out-2 c =
+    let entry = c .before .before .before .before in
+    let the-if1 = c .before .before .before .if1 in
+    set-inside (entry .args .out .now) (entry .args .start) (getD (entry .args .s .now) (entry .args .from) 0) _ (copy-inside _ _ _ 1 (entry .pre .2) (omega (arith, c .before .if2 .left, the-if1 .left)))
 
 same-length-2 : tie.Need-same-length-2
 same-length-2 c = search needs
 
 returns-3 : tie.Need-returns-3
-returns-3 c = few-two _ _ _ _ _ (c .before .before .before .before .before .pre .1) (c .if3 .taken)
+returns-3 c =
+    let start = c .before .before .before .before .before in
+    few-two _ _ _ _ _ (start .pre .1) (c .if3 .taken)
 
 add-out-3 : tie.Need-add-out-3
 add-out-3 c = search needs
@@ -49,13 +56,22 @@ add-out-4 : tie.Need-add-out-4
 add-out-4 c = search needs
 
 slice-write-out-3 : tie.Need-slice-write-out-3
-slice-write-out-3 c = set-inside (set (c .before .before .before .before .before .before .args .out .now) (c .before .before .before .before .before .before .args .start) (getD (c .before .before .before .before .before .before .args .s .now) (c .before .before .before .before .before .before .args .from) 0)) ((c .before .before .before .before .before .before .args .start) + 1) (getD (c .before .before .before .before .before .before .args .s .now) ((c .before .before .before .before .before .before .args .from) + 1) 0) _ (set-inside (c .before .before .before .before .before .before .args .out .now) (c .before .before .before .before .before .before .args .start) (getD (c .before .before .before .before .before .before .args .s .now) (c .before .before .before .before .before .before .args .from) 0) _ (copy-inside _ _ _ 2 (c .before .before .before .before .before .before .pre .2) (omega (arith, c .before .if3 .left, c .before .before .before .if2 .left, c .before .before .before .before .before .if1 .left))))
+slice-write-out-3 c =
+    let entry = c .before .before .before .before .before .before in
+    let the-if1 = c .before .before .before .before .before .if1 in
+    let the-if2 = c .before .before .before .if2 in
+    set-inside (set (entry .args .out .now) (entry .args .start) (getD (entry .args .s .now) (entry .args .from) 0)) ((entry .args .start) + 1) (getD (entry .args .s .now) ((entry .args .from) + 1) 0)
+    _ (set-inside (entry .args .out .now) (entry .args .start) (getD (entry .args .s .now) (entry .args .from) 0) _ (copy-inside _ _ _ 2 (entry .pre .2) (omega (arith, c .before .if3 .left, the-if2 .left, the-if1 .left))))
 
 same-length-3 : tie.Need-same-length-3
 same-length-3 c = search needs
 
 returns-4 : tie.Need-returns-4
-returns-4 c = few-three _ _ _ _ _ (c .before .before .before .before .before .before .pre .1) (omega (arith, c .before .before .before .before .before .before .pre .0, c .before .if3 .left, c .before .before .before .if2 .left, c .before .before .before .before .before .if1 .left))
+returns-4 c =
+    let start = c .before .before .before .before .before .before in
+    let the-if1 = c .before .before .before .before .before .if1 in
+    let the-if2 = c .before .before .before .if2 in
+    few-three _ _ _ _ _ (start .pre .1) (omega (arith, start .pre .0, c .before .if3 .left, the-if2 .left, the-if1 .left))
 
 pub copy-few-spec : {M : Type 1} → statement M
 copy-few-spec =

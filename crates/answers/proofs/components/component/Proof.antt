@@ -30,7 +30,9 @@ part-result-end-2 : tie.Need-part-result-end-2
 part-result-end-2 c = search needs
 
 returns-2 : tie.Need-returns-2
-returns-2 c = too-long (now (c .before .before .before .before .before .args .texts)) (c .before .before .before .before .before .args .lengths) (c .before .before .before .before .before .args .c) _ (c .before .before .before .before .before .good .1 .0 .1 .0 .1) (c .before .before .sum-first .ensures) (c .before .if2 .taken)
+returns-2 c =
+    let start = c .before .before .before .before .before in
+    too-long (now (start .args .texts)) (start .args .lengths) (start .args .c) _ (start .good .1 .0 .1 .0 .1) (c .before .before .sum-first .ensures) (c .before .if2 .taken)
 
 mul-sum-first : tie.Need-mul-sum-first
 mul-sum-first c = search needs
@@ -48,16 +50,30 @@ sum-first-requires-3 : tie.Need-sum-first-requires-3
 sum-first-requires-3 c κs = search needs
 
 sub-result-3 : tie.Need-sub-result-3
-sub-result-3 c = in-order (now (c .before .before .before .before .before .before .args .texts)) (c .before .before .before .before .before .before .args .lengths) (c .before .before .before .before .before .before .args .c) _ (c .before .before .before .before .before .before .good .1 .0 .1 .0 .1) (c .before .before .before .sum-first .ensures) _ _ (c .before .sum-first2 .ensures) (c .sum-first3 .ensures)
+sub-result-3 c =
+    let start = c .before .before .before .before .before .before in
+    let the-sum-first = c .before .before .before .sum-first in
+    in-order (now (start .args .texts)) (start .args .lengths) (start .args .c) _ (start .good .1 .0 .1 .0 .1) (the-sum-first .ensures) _ _ (c .before .sum-first2 .ensures) (c .sum-first3 .ensures)
 
 part-result-start-3 : tie.Need-part-result-start-3
-part-result-start-3 c = in-order (now (c .before .before .before .before .before .before .args .texts)) (c .before .before .before .before .before .before .args .lengths) (c .before .before .before .before .before .before .args .c) _ (c .before .before .before .before .before .before .good .1 .0 .1 .0 .1) (c .before .before .before .sum-first .ensures) _ _ (c .before .sum-first2 .ensures) (c .sum-first3 .ensures)
+part-result-start-3 c =
+    let start = c .before .before .before .before .before .before in
+    let the-sum-first = c .before .before .before .sum-first in
+    in-order (now (start .args .texts)) (start .args .lengths) (start .args .c) _ (start .good .1 .0 .1 .0 .1) (the-sum-first .ensures) _ _ (c .before .sum-first2 .ensures) (c .sum-first3 .ensures)
 
 part-result-end-3 : tie.Need-part-result-end-3
-part-result-end-3 c = within (now (c .before .before .before .before .before .before .args .texts)) (c .before .before .before .before .before .before .args .lengths) (c .before .before .before .before .before .before .args .c) _ (c .before .before .before .before .before .before .good .1 .0 .1 .0 .1) (c .before .before .before .sum-first .ensures) _ _ (c .before .sum-first2 .ensures) (c .sum-first3 .ensures) (c .before .before .if2 .left)
+part-result-end-3 c =
+    let start = c .before .before .before .before .before .before in
+    let the-sum-first = c .before .before .before .sum-first in
+    within (now (start .args .texts)) (start .args .lengths) (start .args .c) _ (start .good .1 .0 .1 .0 .1) (the-sum-first .ensures) _ _ (c .before .sum-first2 .ensures) (c .sum-first3 .ensures) (c .before .before .if2 .left)
 
 returns-3 : tie.Need-returns-3
-returns-3 c = read-out (now (c .before .before .before .before .before .before .before .args .texts)) (c .before .before .before .before .before .before .before .args .lengths) (c .before .before .before .before .before .before .before .args .c) _ (c .before .before .before .before .before .before .before .good .1 .0 .1 .0 .1) (c .before .before .before .before .sum-first .ensures) _ _ (c .before .before .sum-first2 .ensures) (c .before .sum-first3 .ensures) (c .before .before .before .before .before .if1 .left) (c .before .before .before .if2 .left)
+returns-3 c =
+    let start = c .before .before .before .before .before .before .before in
+    let the-if1 = c .before .before .before .before .before .if1 in
+    let the-sum-first = c .before .before .before .before .sum-first in
+    let the-if2 = c .before .before .before .if2 in
+    read-out (now (start .args .texts)) (start .args .lengths) (start .args .c) _ (start .good .1 .0 .1 .0 .1) (the-sum-first .ensures) _ _ (c .before .before .sum-first2 .ensures) (c .before .sum-first3 .ensures) (the-if1 .left) (the-if2 .left)
 
 pub component-spec : {M : Type 1} → statement M
 component-spec =

@@ -51,7 +51,7 @@ add-name-requires c κs =
     let the-if2 = c .before .before .before .before .if2 in
     let p = start .pre in
     let a = start .args in
-    (p .0, p .1, p .3 .named, omega (arith, p .4, the-if1 .left), fresh-whole (a .used) (a .text .now) (a .table .now) (a .count) _ _ (the-has-name .ensures) (the-if2 .left), p .3 .size, p .3 .flagged)
+    (p .0, p .1, p .3, omega (arith, p .4, the-if1 .left), fresh-whole (a .used) (a .text .now) (a .table .now) (a .count) _ _ (the-has-name .ensures) (the-if2 .left))
 
 -- src/define.rt:16:1
 same-length-2 : tie.Need-same-length-2

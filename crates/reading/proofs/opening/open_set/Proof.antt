@@ -7,8 +7,8 @@ use Rattle.reading.proofs.opening.open_set.Tie as tie
 use Rattle.reading.proofs.opening.open_set.Reads as reads
 use Rattle.reading.proofs.opening.open_set.Lts as lts
 use Rattle.bitsets.proofs.span.Reads as span-reads
-use Rattle.reading.proofs.ranges.has_options.Reads as has-options-reads
-use Rattle.reading.proofs.ranges.layout_range.Reads as layout-range-reads
+use Rattle.judging.proofs.ranges.has_options.Reads as has-options-reads
+use Rattle.judging.proofs.ranges.layout_range.Reads as layout-range-reads
 use Rattle.reading.proofs.opening.closed_set.Reads as closed-set-reads
 use Rattle.rules.proofs.judge.present_by.Reads as present-by-reads
 

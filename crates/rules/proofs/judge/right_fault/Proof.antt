@@ -24,13 +24,17 @@ loop-holds : tie.Need-loop-holds Inv-loop μ-loop
 loop-holds c = right-start _ _ _ (omega arith)
 
 word-requires : tie.Need-word-requires Inv-loop μ-loop
-word-requires c κs = (c .before .before .before .before .pre .0, omega arith, omega arith)
+word-requires c κs =
+    let start = c .before .before .before .before in
+    (start .pre .0, omega arith, omega arith)
 
 is-ordinary-requires : tie.Need-is-ordinary-requires Inv-loop μ-loop
 is-ordinary-requires c κs = search needs
 
 returns : tie.Need-returns Inv-loop μ-loop
-returns c = right-odd _ _ _ _ _ (c .before .before .before .before .loop .inv) (omega arith) (ap ordinary (sym (c .before .before .word .ensures)) ∙ (sym (c .before .is-ordinary .ensures) ∙ not-true _ (c .if1 .taken)))
+returns c =
+    let the-loop = c .before .before .before .before .loop in
+    right-odd _ _ _ _ _ (the-loop .inv) (omega arith) (ap ordinary (sym (c .before .before .word .ensures)) ∙ (sym (c .before .is-ordinary .ensures) ∙ not-true _ (c .if1 .taken)))
 
 or-malformed-requires : tie.Need-or-malformed-requires Inv-loop μ-loop
 or-malformed-requires c κs = search needs
@@ -42,7 +46,11 @@ loop-less : tie.Need-loop-less Inv-loop μ-loop
 loop-less c = search needs
 
 loop-again : tie.Need-loop-again Inv-loop μ-loop
-loop-again c = right-more _ _ _ _ _ (c .before .before .before .before .before .loop .inv) _ (omega arith) (ap ordinary (sym (c .before .before .before .word .ensures)) ∙ (sym (c .before .before .is-ordinary .ensures) ∙ not-false _ (c .before .if1 .left))) (c .or-malformed .ensures ∙ ap (λ x. c .before .before .before .before .before .loop .bad || malformed (c .before .before .before .before .before .before .before .before .args .indexed) x) (c .before .before .before .word .ensures))
+loop-again c =
+    let start = c .before .before .before .before .before .before .before .before in
+    let the-loop = c .before .before .before .before .before .loop in
+    let the-word = c .before .before .before .word in
+    right-more _ _ _ _ _ (the-loop .inv) _ (omega arith) (ap ordinary (sym (the-word .ensures)) ∙ (sym (c .before .before .is-ordinary .ensures) ∙ not-false _ (c .before .if1 .left))) (c .or-malformed .ensures ∙ ap (λ x. the-loop .bad || malformed (start .args .indexed) x) (the-word .ensures))
 
 returns-2 : tie.Need-returns-2 Inv-loop μ-loop
 returns-2 c = right-bad _ _ _ _ _ (c .before .before .loop .inv) (omega arith) (c .if2 .taken)

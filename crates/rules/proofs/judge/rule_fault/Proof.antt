@@ -21,13 +21,18 @@ add-if2-2 : tie.Need-add-if2-2
 add-if2-2 c = search needs
 
 returns-2 : tie.Need-returns-2
-returns-2 c = fault-count _ _ (c .before .before .if1 .left) _ (c .before .before .before .before .before .before .pre .1) (c .if2 .taken)
+returns-2 c =
+    let start = c .before .before .before .before .before .before in
+    fault-count _ _ (c .before .before .if1 .left) _ (start .pre .1) (c .if2 .taken)
 
 left-words-requires : tie.Need-left-words-requires
 left-words-requires c κs = search needs
 
 returns-3 : tie.Need-returns-3
-returns-3 c = fault-left _ _ (c .before .before .before .before .if1 .left) _ (c .before .before .before .before .before .before .before .before .pre .1) (c .before .before .if2 .left) (sym (c .before .left-words .ensures) ∙ not-true _ (c .if3 .taken))
+returns-3 c =
+    let start = c .before .before .before .before .before .before .before .before in
+    let the-if1 = c .before .before .before .before .if1 in
+    fault-left _ _ (the-if1 .left) _ (start .pre .1) (c .before .before .if2 .left) (sym (c .before .left-words .ensures) ∙ not-true _ (c .if3 .taken))
 
 word-requires : tie.Need-word-requires
 word-requires c κs = search needs
@@ -36,7 +41,13 @@ is-equals-requires : tie.Need-is-equals-requires
 is-equals-requires c κs = search needs
 
 returns-4 : tie.Need-returns-4
-returns-4 c = fault-equals _ _ (c .before .before .before .before .before .before .before .if1 .left) _ (c .before .before .before .before .before .before .before .before .before .before .before .pre .1) (c .before .before .before .before .before .if2 .left) (sym (c .before .before .before .before .left-words .ensures) ∙ not-false _ (c .before .before .before .if3 .left)) (ap isEquals (sym (c .before .before .word .ensures)) ∙ (sym (c .before .is-equals .ensures) ∙ not-true _ (c .if4 .taken)))
+returns-4 c =
+    let start = c .before .before .before .before .before .before .before .before .before .before .before in
+    let the-if1 = c .before .before .before .before .before .before .before .if1 in
+    let the-if2 = c .before .before .before .before .before .if2 in
+    let the-left-words = c .before .before .before .before .left-words in
+    let the-if3 = c .before .before .before .if3 in
+    fault-equals _ _ (the-if1 .left) _ (start .pre .1) (the-if2 .left) (sym (the-left-words .ensures) ∙ not-false _ (the-if3 .left)) (ap isEquals (sym (c .before .before .word .ensures)) ∙ (sym (c .before .is-equals .ensures) ∙ not-true _ (c .if4 .taken)))
 
 add-right-fault : tie.Need-add-right-fault
 add-right-fault c = search needs
@@ -45,7 +56,15 @@ right-fault-requires : tie.Need-right-fault-requires
 right-fault-requires c κs = search needs
 
 returns-5 : tie.Need-returns-5
-returns-5 c = fault-right _ _ (c .before .before .before .before .before .before .before .before .before .if1 .left) _ (c .before .before .before .before .before .before .before .before .before .before .before .before .before .pre .1) (c .before .before .before .before .before .before .before .if2 .left) (sym (c .before .before .before .before .before .before .left-words .ensures) ∙ not-false _ (c .before .before .before .before .before .if3 .left)) (ap isEquals (sym (c .before .before .before .before .word .ensures)) ∙ (sym (c .before .before .before .is-equals .ensures) ∙ not-false _ (c .before .before .if4 .left))) _ (c .right-fault .ensures)
+returns-5 c =
+    let start = c .before .before .before .before .before .before .before .before .before .before .before .before .before in
+    let the-if1 = c .before .before .before .before .before .before .before .before .before .if1 in
+    let the-if2 = c .before .before .before .before .before .before .before .if2 in
+    let the-left-words = c .before .before .before .before .before .before .left-words in
+    let the-if3 = c .before .before .before .before .before .if3 in
+    let the-word = c .before .before .before .before .word in
+    let the-is-equals = c .before .before .before .is-equals in
+    fault-right _ _ (the-if1 .left) _ (start .pre .1) (the-if2 .left) (sym (the-left-words .ensures) ∙ not-false _ (the-if3 .left)) (ap isEquals (sym (the-word .ensures)) ∙ (sym (the-is-equals .ensures) ∙ not-false _ (c .before .before .if4 .left))) _ (c .right-fault .ensures)
 
 pub rule-fault-spec : {M : Type 1} → statement M
 rule-fault-spec =

@@ -31,13 +31,22 @@ store-requires : tie.Need-store-requires Inv-loop μ-loop
 store-requires c κs = search needs
 
 sub-count-word : tie.Need-sub-count-word Inv-loop μ-loop
-sub-count-word c = let u = found _ _ _ _ _ _ _ _ (c .before .before .before .before .before .start .given .1) (c .before .before .before .before .before .before .before .next-word .ensures) in omega (arith, u .some)
+sub-count-word c =
+    let the-next-word = c .before .before .before .before .before .before .before .next-word in
+    let the-start = c .before .before .before .before .before .start in
+    let u = found _ _ _ _ _ _ _ _ (the-start .given .1) (the-next-word .ensures) in omega (arith, u .some)
 
 part-count-word-start : tie.Need-part-count-word-start Inv-loop μ-loop
-part-count-word-start c = let u = found _ _ _ _ _ _ _ _ (c .before .before .before .before .before .start .given .1) (c .before .before .before .before .before .before .before .next-word .ensures) in omega (arith, u .some)
+part-count-word-start c =
+    let the-next-word = c .before .before .before .before .before .before .before .next-word in
+    let the-start = c .before .before .before .before .before .start in
+    let u = found _ _ _ _ _ _ _ _ (the-start .given .1) (the-next-word .ensures) in omega (arith, u .some)
 
 part-count-word-end : tie.Need-part-count-word-end Inv-loop μ-loop
-part-count-word-end c = let u = found _ _ _ _ _ _ _ _ (c .before .before .before .before .before .start .given .1) (c .before .before .before .before .before .before .before .next-word .ensures) in u .high
+part-count-word-end c =
+    let the-next-word = c .before .before .before .before .before .before .before .next-word in
+    let the-start = c .before .before .before .before .before .start in
+    let u = found _ _ _ _ _ _ _ _ (the-start .given .1) (the-next-word .ensures) in u .high
 
 count-word-requires : tie.Need-count-word-requires Inv-loop μ-loop
 count-word-requires c κs = search needs
@@ -46,11 +55,19 @@ lower-requires : tie.Need-lower-requires Inv-loop μ-loop
 lower-requires c κs = search needs
 
 loop-less : tie.Need-loop-less Inv-loop μ-loop
-loop-less c = let u = found _ _ _ _ _ _ _ _ (c .before .before .before .before .before .before .before .before .start .given .1) (c .before .before .before .before .before .before .before .before .before .before .next-word .ensures) in omega (arith, u .low, u .some, u .high)
+loop-less c =
+    let the-next-word = c .before .before .before .before .before .before .before .before .before .before .next-word in
+    let the-start = c .before .before .before .before .before .before .before .before .start in
+    let u = found _ _ _ _ _ _ _ _ (the-start .given .1) (the-next-word .ensures) in omega (arith, u .low, u .some, u .high)
 
 loop-again : tie.Need-loop-again Inv-loop μ-loop
 unfolding part
-loop-again c = splitting-more _ _ _ _ _ _ _ (c .before .before .before .before .before .before .before .before .before .before .before .loop .inv) _ _ _ _ _ _ _ (found _ _ _ _ _ _ _ _ (c .before .before .before .before .before .before .before .before .start .given .1) (c .before .before .before .before .before .before .before .before .before .before .next-word .ensures)) (c .before .before .before .before .before .store .ensures) (c .before .count-word .ensures) (c .lower .ensures)
+loop-again c =
+    let the-loop = c .before .before .before .before .before .before .before .before .before .before .before .loop in
+    let the-next-word = c .before .before .before .before .before .before .before .before .before .before .next-word in
+    let the-start = c .before .before .before .before .before .before .before .before .start in
+    let the-store = c .before .before .before .before .before .store in
+    splitting-more _ _ _ _ _ _ _ (the-loop .inv) _ _ _ _ _ _ _ (found _ _ _ _ _ _ _ _ (the-start .given .1) (the-next-word .ensures)) (the-store .ensures) (c .before .count-word .ensures) (c .lower .ensures)
 
 enum-known-next : tie.Need-enum-known-next Inv-loop μ-loop
 enum-known-next c = search needs
@@ -59,7 +76,10 @@ same-length : tie.Need-same-length Inv-loop μ-loop
 same-length c = search needs
 
 returns : tie.Need-returns Inv-loop μ-loop
-returns c = splitting-end _ _ _ _ _ _ _ (c .before .before .before .before .loop .inv) _ _ (stopped _ _ _ _ _ _ (c .before .next .given .1) (c .before .before .before .next-word .ensures))
+returns c =
+    let the-loop = c .before .before .before .before .loop in
+    let the-next-word = c .before .before .before .next-word in
+    splitting-end _ _ _ _ _ _ _ (the-loop .inv) _ _ (stopped _ _ _ _ _ _ (c .before .next .given .1) (the-next-word .ensures))
 
 pub split-line-spec : {M : Type 1} → statement M
 split-line-spec =

@@ -18,19 +18,27 @@ loop-holds : tie.Need-loop-holds Inv-loop μ-loop
 loop-holds c = lefts-start _ _ _ _ (c .before .pre .0)
 
 plain-word-requires : tie.Need-plain-word-requires Inv-loop μ-loop
-plain-word-requires c κs = (c .before .loop .inv .inside, c .before .before .before .pre .1)
+plain-word-requires c κs =
+    let start = c .before .before .before in
+    (c .before .loop .inv .inside, start .pre .1)
 
 enum-known-start : tie.Need-enum-known-start Inv-loop μ-loop
 enum-known-start c = search needs
 
 sub-is-left-word : tie.Need-sub-is-left-word Inv-loop μ-loop
-sub-is-left-word c = let u = plainly _ _ _ _ _ _ (c .before .start .given .1) (c .before .before .before .plain-word .ensures) .found 0 (omega arith) in omega (arith, u .some)
+sub-is-left-word c =
+    let the-plain-word = c .before .before .before .plain-word in
+    let u = plainly _ _ _ _ _ _ (c .before .start .given .1) (the-plain-word .ensures) .found 0 (omega arith) in omega (arith, u .some)
 
 part-is-left-word-start : tie.Need-part-is-left-word-start Inv-loop μ-loop
-part-is-left-word-start c = let u = plainly _ _ _ _ _ _ (c .before .start .given .1) (c .before .before .before .plain-word .ensures) .found 0 (omega arith) in omega (arith, u .some)
+part-is-left-word-start c =
+    let the-plain-word = c .before .before .before .plain-word in
+    let u = plainly _ _ _ _ _ _ (c .before .start .given .1) (the-plain-word .ensures) .found 0 (omega arith) in omega (arith, u .some)
 
 part-is-left-word-end : tie.Need-part-is-left-word-end Inv-loop μ-loop
-part-is-left-word-end c = let u = plainly _ _ _ _ _ _ (c .before .start .given .1) (c .before .before .before .plain-word .ensures) .found 0 (omega arith) in u .high
+part-is-left-word-end c =
+    let the-plain-word = c .before .before .before .plain-word in
+    let u = plainly _ _ _ _ _ _ (c .before .start .given .1) (the-plain-word .ensures) .found 0 (omega arith) in u .high
 
 is-left-word-requires : tie.Need-is-left-word-requires Inv-loop μ-loop
 is-left-word-requires c κs = search needs
@@ -46,7 +54,12 @@ loop-less c = search needs
 
 loop-again : tie.Need-loop-again Inv-loop μ-loop
 unfolding part
-loop-again c = lefts-more _ _ _ _ _ _ (c .before .before .before .before .before .before .before .before .loop .inv) _ _ (c .before .before .before .before .before .before .before .loop-test .taken) (plainly _ _ _ _ _ _ (c .before .before .before .before .start .given .1) (c .before .before .before .before .before .before .plain-word .ensures)) (sym (c .before .is-left-word .ensures) ∙ not-false _ (c .if1 .left))
+loop-again c =
+    let the-loop = c .before .before .before .before .before .before .before .before .loop in
+    let the-loop-test = c .before .before .before .before .before .before .before .loop-test in
+    let the-plain-word = c .before .before .before .before .before .before .plain-word in
+    let the-start = c .before .before .before .before .start in
+    lefts-more _ _ _ _ _ _ (the-loop .inv) _ _ (the-loop-test .taken) (plainly _ _ _ _ _ _ (the-start .given .1) (the-plain-word .ensures)) (sym (c .before .is-left-word .ensures) ∙ not-false _ (c .if1 .left))
 
 enum-told : tie.Need-enum-told Inv-loop μ-loop
 enum-told c = search needs

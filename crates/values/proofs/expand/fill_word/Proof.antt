@@ -15,7 +15,9 @@ abbrev μ-loop : tie.MeasureT-loop
 μ-loop w text bounds n k scratch₀ i₀ o₀ scratch i o = length w - i
 
 loop-holds : tie.Need-loop-holds Inv-loop μ-loop
-loop-holds c = going-start _ _ _ _ (c .before .before .before .pre .2)
+loop-holds c =
+    let start = c .before .before .before in
+    going-start _ _ _ _ (start .pre .2)
 
 shared-slice-read-b : tie.Need-shared-slice-read-b Inv-loop μ-loop
 shared-slice-read-b c = search needs
@@ -30,25 +32,43 @@ loop-less : tie.Need-loop-less Inv-loop μ-loop
 loop-less c = search needs
 
 loop-again : tie.Need-loop-again Inv-loop μ-loop
-loop-again c = going-byte _ _ _ _ _ _ _ (c .before .before .before .before .before .before .before .loop .inv) (c .before .before .before .before .before .before .loop-test .taken) _ _ (c .before .before .before .before .if1 .taken) (c .before .before .put-byte .ensures)
+loop-again c =
+    let the-loop = c .before .before .before .before .before .before .before .loop in
+    let the-loop-test = c .before .before .before .before .before .before .loop-test in
+    let the-if1 = c .before .before .before .before .if1 in
+    going-byte _ _ _ _ _ _ _ (the-loop .inv) (the-loop-test .taken) _ _ (the-if1 .taken) (c .before .before .put-byte .ensures)
 
 piece-after-requires : tie.Need-piece-after-requires Inv-loop μ-loop
 piece-after-requires c κs = search needs
 
 put-piece-requires : tie.Need-put-piece-requires Inv-loop μ-loop
-put-piece-requires c κs = (c .before .before .before .before .before .before .before .before .before .pre .0, omega (arith, c .before .before .before .before .before .loop .inv .left .long, c .before .before .before .before .before .before .before .before .before .pre .2), c .before .before .before .before .before .loop .inv .left .low)
+put-piece-requires c κs =
+    let start = c .before .before .before .before .before .before .before .before .before in
+    let the-loop = c .before .before .before .before .before .loop in
+    (start .pre .0, omega (arith, the-loop .inv .left .long, start .pre .2), the-loop .inv .left .low)
 
 piece-length-requires : tie.Need-piece-length-requires Inv-loop μ-loop
 piece-length-requires c κs = search needs
 
 add-i-2 : tie.Need-add-i-2 Inv-loop μ-loop
-add-i-2 c = omega (arith, item-high (c .before .before .before .before .before .before .before .before .before .before .before .before .before .args .w .now) (c .before .before .before .before .before .before .before .before .before .loop .i) (c .before .before .before .before .before .before .before .before .loop-test .taken) _ (c .before .before .before .before .before .piece-after .ensures) _ (c .piece-length .ensures))
+add-i-2 c =
+    let start = c .before .before .before .before .before .before .before .before .before .before .before .before .before in
+    let the-loop = c .before .before .before .before .before .before .before .before .before .loop in
+    let the-loop-test = c .before .before .before .before .before .before .before .before .loop-test in
+    let the-piece-after = c .before .before .before .before .before .piece-after in
+    omega (arith, item-high (start .args .w .now) (the-loop .i) (the-loop-test .taken) _ (the-piece-after .ensures) _ (c .piece-length .ensures))
 
 loop-less-2 : tie.Need-loop-less-2 Inv-loop μ-loop
 loop-less-2 c = search needs
 
 loop-again-2 : tie.Need-loop-again-2 Inv-loop μ-loop
-loop-again-2 c = going-item _ _ _ _ _ _ _ (c .before .before .before .before .before .before .before .before .before .loop .inv) (c .before .before .before .before .before .before .before .before .loop-test .taken) _ _ (c .before .before .before .before .before .before .if1 .left) _ (c .before .before .before .before .before .piece-after .ensures) (c .before .before .before .put-piece .ensures) _ (c .piece-length .ensures)
+loop-again-2 c =
+    let the-loop = c .before .before .before .before .before .before .before .before .before .loop in
+    let the-loop-test = c .before .before .before .before .before .before .before .before .loop-test in
+    let the-if1 = c .before .before .before .before .before .before .if1 in
+    let the-piece-after = c .before .before .before .before .before .piece-after in
+    let the-put-piece = c .before .before .before .put-piece in
+    going-item _ _ _ _ _ _ _ (the-loop .inv) (the-loop-test .taken) _ _ (the-if1 .left) _ (the-piece-after .ensures) (the-put-piece .ensures) _ (c .piece-length .ensures)
 
 wide-requires : tie.Need-wide-requires Inv-loop μ-loop
 wide-requires c κs = search needs
@@ -57,7 +77,9 @@ same-length : tie.Need-same-length Inv-loop μ-loop
 same-length c = c .before .before .loop .inv .left .long
 
 returns : tie.Need-returns Inv-loop μ-loop
-returns c = going-end _ (short-placed _ _ (c .before .before .before .before .before .before .pre .0 .placed) _) _ _ _ _ _ _ _ (c .before .before .loop .inv) (c .before .loop-test .left) (c .before .before .before .before .before .before .pre .1) (c .before .before .before .before .before .before .pre .2) (c .wide .ensures .0)
+returns c =
+    let start = c .before .before .before .before .before .before in
+    going-end _ (short-placed _ _ (start .pre .0 .placed) _) _ _ _ _ _ _ _ (c .before .before .loop .inv) (c .before .loop-test .left) (start .pre .1) (start .pre .2) (c .wide .ensures .0)
 
 pub fill-word-spec : {M : Type 1} → statement M
 fill-word-spec =

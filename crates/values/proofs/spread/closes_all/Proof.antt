@@ -15,7 +15,9 @@ shared-slice-read-if1 c = search needs
 
 returns : tie.Need-returns
 unfolding bytes
-returns c = closes-other (c .before .before .before .args .t .now) (c .before .before .before .args .i) 1 (omega arith) (c .if1 .taken)
+returns c =
+    let start = c .before .before .before in
+    closes-other (start .args .t .now) (start .args .i) 1 (omega arith) (c .if1 .taken)
 
 add-if2 : tie.Need-add-if2
 add-if2 c = search needs
@@ -25,7 +27,9 @@ shared-slice-read-if2 c = search needs
 
 returns-2 : tie.Need-returns-2
 unfolding bytes
-returns-2 c = closes-other (c .before .before .before .before .before .args .t .now) (c .before .before .before .before .before .args .i) 2 (omega arith) (c .if2 .taken)
+returns-2 c =
+    let start = c .before .before .before .before .before in
+    closes-other (start .args .t .now) (start .args .i) 2 (omega arith) (c .if2 .taken)
 
 add-if3 : tie.Need-add-if3
 add-if3 c = search needs
@@ -35,7 +39,9 @@ shared-slice-read-if3 c = search needs
 
 returns-3 : tie.Need-returns-3
 unfolding bytes
-returns-3 c = closes-other (c .before .before .before .before .before .before .before .args .t .now) (c .before .before .before .before .before .before .before .args .i) 3 (omega arith) (c .if3 .taken)
+returns-3 c =
+    let start = c .before .before .before .before .before .before .before in
+    closes-other (start .args .t .now) (start .args .i) 3 (omega arith) (c .if3 .taken)
 
 add-is-sign : tie.Need-add-is-sign
 add-is-sign c = search needs
@@ -47,7 +53,11 @@ is-sign-requires : tie.Need-is-sign-requires
 is-sign-requires c κs = search needs
 
 returns-4 : tie.Need-returns-4
-returns-4 c = closes-sign (c .before .before .before .before .before .before .before .before .before .args .t .now) (c .before .before .before .before .before .before .before .before .before .args .i) (c .before .before .before .before .before .before .before .before .before .pre .0) (c .before .before .before .before .before .before .before .before .before .pre .1) (c .before .before .before .before .before .before .if1 .left) (c .before .before .before .before .if2 .left) (c .before .before .if3 .left) _ (c .is-sign .ensures)
+returns-4 c =
+    let start = c .before .before .before .before .before .before .before .before .before in
+    let the-if1 = c .before .before .before .before .before .before .if1 in
+    let the-if2 = c .before .before .before .before .if2 in
+    closes-sign (start .args .t .now) (start .args .i) (start .pre .0) (start .pre .1) (the-if1 .left) (the-if2 .left) (c .before .before .if3 .left) _ (c .is-sign .ensures)
 
 pub closes-all-spec : {M : Type 1} → statement M
 closes-all-spec =

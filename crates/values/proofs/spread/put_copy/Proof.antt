@@ -20,7 +20,11 @@ same-length : tie.Need-same-length
 same-length c = search needs
 
 returns : tie.Need-returns
-returns c = copy-put _ _ _ _ _ _ _ _ _ _ _ (c .before .before .before .before .before .before .before .before .before .before .before .before .before .before .pre .0) (c .before .before .before .before .before .before .before .before .before .before .before .before .before .before .pre .2) (c .before .before .before .before .before .before .before .before .before .before .before .before .before .before .pre .3) (c .before .before .before .before .before .before .before .before .before .before .put-byte .ensures) (c .before .before .before .before .before .before .put-text .ensures) (c .before .before .put-end .ensures)
+returns c =
+    let start = c .before .before .before .before .before .before .before .before .before .before .before .before .before .before in
+    let the-put-byte = c .before .before .before .before .before .before .before .before .before .before .put-byte in
+    let the-put-text = c .before .before .before .before .before .before .put-text in
+    copy-put _ _ _ _ _ _ _ _ _ _ _ (start .pre .0) (start .pre .2) (start .pre .3) (the-put-byte .ensures) (the-put-text .ensures) (c .before .before .put-end .ensures)
 
 pub put-copy-spec : {M : Type 1} → statement M
 put-copy-spec =

@@ -37,7 +37,9 @@ add-out-3 : tie.Need-add-out-3
 add-out-3 c = search needs
 
 slice-write-out-2 : tie.Need-slice-write-out-2
-slice-write-out-2 c = first-inside _ _ _ _ _ (c .before .before .copy .ensures) (c .before .before .before .before .if1 .taken)
+slice-write-out-2 c =
+    let the-if1 = c .before .before .before .before .if1 in
+    first-inside _ _ _ _ _ (c .before .before .copy .ensures) (the-if1 .taken)
 
 add-result : tie.Need-add-result
 add-result c = search needs
@@ -52,7 +54,11 @@ same-length : tie.Need-same-length
 same-length c = search needs
 
 returns : tie.Need-returns
-returns c = first-wrote _ (c .before .before .before .before .before .before .before .before .args .t .now) (c .before .before .before .before .before .before .before .before .args .i) (c .before .before .before .before .before .before .before .before .args .c) _ (c .before .before .before .before .before .before .before .before .pre .0) (c .before .before .before .before .before .before .before .before .pre .1) _ _ _ (c .before .before .before .before .before .wide .ensures .0) (c .before .before .before .before .if1 .taken) (c .before .before .before .before .before .before .before .before .pre .2) (c .before .before .copy .ensures) refl
+returns c =
+    let start = c .before .before .before .before .before .before .before .before in
+    let the-wide = c .before .before .before .before .before .wide in
+    let the-if1 = c .before .before .before .before .if1 in
+    first-wrote _ (start .args .t .now) (start .args .i) (start .args .c) _ (start .pre .0) (start .pre .1) _ _ _ (the-wide .ensures .0) (the-if1 .taken) (start .pre .2) (c .before .before .copy .ensures) refl
 
 put-part-requires : tie.Need-put-part-requires
 put-part-requires c κs = search needs
@@ -64,7 +70,10 @@ same-length-2 : tie.Need-same-length-2
 same-length-2 c = search needs
 
 returns-2 : tie.Need-returns-2
-returns-2 c = first-then _ _ _ _ _ (c .before .before .before .before .before .before .before .before .before .before .before .before .pre .0) (c .before .before .before .before .before .before .before .before .before .before .before .before .pre .1) _ _ _ _ (c .before .before .before .before .before .before .before .before .before .before .before .before .pre .2) (c .before .before .before .before .before .before .put-part .ensures) (c .before .before .put-end .ensures)
+returns-2 c =
+    let start = c .before .before .before .before .before .before .before .before .before .before .before .before in
+    let the-put-part = c .before .before .before .before .before .before .put-part in
+    first-then _ _ _ _ _ (start .pre .0) (start .pre .1) _ _ _ _ (start .pre .2) (the-put-part .ensures) (c .before .before .put-end .ensures)
 
 pub put-first-spec : {M : Type 1} → statement M
 put-first-spec =

@@ -16,16 +16,22 @@ use Rattle.values.proofs.spread.sign_of.Reads as sign-of-reads
 use Rattle.values.proofs.spread.write_copies.Reads as write-copies-reads
 
 returns : tie.Need-returns
-returns c = more-nothing _ _ _ _ _ _ (c .before .before .before .pre .6) (c .if1 .taken)
+returns c =
+    let start = c .before .before .before in
+    more-nothing _ _ _ _ _ _ (start .pre .6) (c .if1 .taken)
 
 piece-start-requires : tie.Need-piece-start-requires
 piece-start-requires c κs = search needs
 
 sub-sign-of : tie.Need-sub-sign-of
-sub-sign-of c = start-inside _ _ _ _ (c .before .before .before .before .pre .0) (c .before .before .before .before .pre .1) (c .piece-start .ensures)
+sub-sign-of c =
+    let start = c .before .before .before .before in
+    start-inside _ _ _ _ (start .pre .0) (start .pre .1) (c .piece-start .ensures)
 
 part-sign-of-start : tie.Need-part-sign-of-start
-part-sign-of-start c = start-inside _ _ _ _ (c .before .before .before .before .pre .0) (c .before .before .before .before .pre .1) (c .piece-start .ensures)
+part-sign-of-start c =
+    let start = c .before .before .before .before in
+    start-inside _ _ _ _ (start .pre .0) (start .pre .1) (c .piece-start .ensures)
 
 part-sign-of-end : tie.Need-part-sign-of-end
 part-sign-of-end c = search needs
@@ -34,10 +40,14 @@ sign-of-requires : tie.Need-sign-of-requires
 sign-of-requires c κs = search needs
 
 sub-behind-sign : tie.Need-sub-behind-sign
-sub-behind-sign c = start-inside _ _ _ _ (c .before .before .before .before .before .before .pre .0) (c .before .before .before .before .before .before .pre .1) (c .before .before .piece-start .ensures)
+sub-behind-sign c =
+    let start = c .before .before .before .before .before .before in
+    start-inside _ _ _ _ (start .pre .0) (start .pre .1) (c .before .before .piece-start .ensures)
 
 part-behind-sign-start : tie.Need-part-behind-sign-start
-part-behind-sign-start c = start-inside _ _ _ _ (c .before .before .before .before .before .before .pre .0) (c .before .before .before .before .before .before .pre .1) (c .before .before .piece-start .ensures)
+part-behind-sign-start c =
+    let start = c .before .before .before .before .before .before in
+    start-inside _ _ _ _ (start .pre .0) (start .pre .1) (c .before .before .piece-start .ensures)
 
 part-behind-sign-end : tie.Need-part-behind-sign-end
 part-behind-sign-end c = search needs
@@ -46,16 +56,26 @@ behind-sign-requires : tie.Need-behind-sign-requires
 behind-sign-requires c κs = search needs
 
 copies-length-requires : tie.Need-copies-length-requires
-copies-length-requires c κs = (c .before .before .before .before .before .before .before .before .pre .2, c .before .before .before .before .before .before .before .before .pre .3, behind-low (c .before .before .before .before .before .before .before .before .args .t .now) (c .before .before .before .before .piece-start .result) (c .before .before .before .before .before .before .before .before .args .c) _ (c .before .before .before .before .before .before .before .before .pre .4) (c .behind-sign .ensures))
+copies-length-requires c κs =
+    let start = c .before .before .before .before .before .before .before .before in
+    let the-piece-start = c .before .before .before .before .piece-start in
+    (start .pre .2, start .pre .3, behind-low (start .args .t .now) (the-piece-start .result) (start .args .c) _ (start .pre .4) (c .behind-sign .ensures))
 
 wide-requires : tie.Need-wide-requires
 wide-requires c κs = search needs
 
 add-if2 : tie.Need-add-if2
-add-if2 c = omega (arith, c .wide .ensures .1, c .before .copies-length .ensures, few-copies _ _ _ (c .before .before .before .before .before .before .before .before .before .before .pre .2) (c .before .before .before .before .before .before .before .before .before .before .pre .3) (behind-low (c .before .before .before .before .before .before .before .before .before .before .args .t .now) (c .before .before .before .before .before .before .piece-start .result) (c .before .before .before .before .before .before .before .before .before .before .args .c) _ (c .before .before .before .before .before .before .before .before .before .before .pre .4) (c .before .before .behind-sign .ensures)))
+add-if2 c =
+    let start = c .before .before .before .before .before .before .before .before .before .before in
+    let the-piece-start = c .before .before .before .before .before .before .piece-start in
+    omega (arith, c .wide .ensures .1, c .before .copies-length .ensures, few-copies _ _ _ (start .pre .2) (start .pre .3) (behind-low (start .args .t .now) (the-piece-start .result) (start .args .c) _ (start .pre .4) (c .before .before .behind-sign .ensures)))
 
 write-copies-requires : tie.Need-write-copies-requires
-write-copies-requires c κs = (c .before .before .before .before .before .before .before .before .before .before .before .before .pre .2, c .before .before .before .before .before .before .before .before .before .before .before .before .pre .3, sign-sign _ _ (c .before .before .before .before .before .before .sign-of .ensures), omega (arith, c .before .if2 .taken, c .before .before .before .copies-length .ensures), c .before .before .before .before .before .before .before .before .before .before .before .before .pre .5)
+write-copies-requires c κs =
+    let start = c .before .before .before .before .before .before .before .before .before .before .before .before in
+    let the-sign-of = c .before .before .before .before .before .before .sign-of in
+    let the-copies-length = c .before .before .before .copies-length in
+    (start .pre .2, start .pre .3, sign-sign _ _ (the-sign-of .ensures), omega (arith, c .before .if2 .taken, the-copies-length .ensures), start .pre .5)
 
 cast-result : tie.Need-cast-result
 cast-result c = search needs
@@ -67,16 +87,31 @@ same-length : tie.Need-same-length
 same-length c = search needs
 
 returns-2 : tie.Need-returns-2
-returns-2 c = more-written _ _ _ _ _ (c .before .before .before .before .before .before .before .before .before .before .before .piece-start .ensures) _ (c .before .before .before .before .before .before .before .before .before .before .before .before .before .before .before .pre .2) (c .before .before .before .before .before .before .before .before .before .before .before .before .before .before .before .pre .3) (c .before .before .before .before .before .before .before .behind-sign .ensures) _ _ _ _ _ _ _ (c .before .before .before .before .before .before .before .before .before .sign-of .ensures) (c .before .before .before .before .before .wide .ensures .0) (c .before .before .write-copies .ensures) (c .before .before .before .before .before .before .copies-length .ensures) (c .before .before .before .before .if2 .taken) (c .before .before .before .before .before .before .before .before .before .before .before .before .before .before .before .pre .5) refl
+returns-2 c =
+    let start = c .before .before .before .before .before .before .before .before .before .before .before .before .before .before .before in
+    let the-piece-start = c .before .before .before .before .before .before .before .before .before .before .before .piece-start in
+    let the-sign-of = c .before .before .before .before .before .before .before .before .before .sign-of in
+    let the-behind-sign = c .before .before .before .before .before .before .before .behind-sign in
+    let the-copies-length = c .before .before .before .before .before .before .copies-length in
+    let the-wide = c .before .before .before .before .before .wide in
+    let the-if2 = c .before .before .before .before .if2 in
+    more-written _ _ _ _ _ (the-piece-start .ensures) _ (start .pre .2) (start .pre .3) (the-behind-sign .ensures) _ _ _ _ _ _ _ (the-sign-of .ensures) (the-wide .ensures .0) (c .before .before .write-copies .ensures) (the-copies-length .ensures) (the-if2 .taken) (start .pre .5) refl
 
 put-copies-requires : tie.Need-put-copies-requires
-put-copies-requires c κs = (c .before .before .before .before .before .before .before .before .before .before .before .before .pre .2, c .before .before .before .before .before .before .before .before .before .before .before .before .pre .3, sign-sign _ _ (c .before .before .before .before .before .before .sign-of .ensures), c .before .before .before .before .before .before .before .before .before .before .before .before .pre .5, c .before .before .before .before .before .before .before .before .before .before .before .before .pre .6)
+put-copies-requires c κs =
+    let start = c .before .before .before .before .before .before .before .before .before .before .before .before in
+    let the-sign-of = c .before .before .before .before .before .before .sign-of in
+    (start .pre .2, start .pre .3, sign-sign _ _ (the-sign-of .ensures), start .pre .5, start .pre .6)
 
 same-length-2 : tie.Need-same-length-2
 same-length-2 c = search needs
 
 returns-3 : tie.Need-returns-3
-returns-3 c = more-wrote _ _ _ _ _ (c .before .before .before .before .before .before .before .before .before .before .before .piece-start .ensures) _ _ _ _ _ _ (c .before .before .before .before .before .before .before .before .before .sign-of .ensures) (c .before .before .before .before .before .before .before .behind-sign .ensures) (c .before .before .put-copies .ensures)
+returns-3 c =
+    let the-piece-start = c .before .before .before .before .before .before .before .before .before .before .before .piece-start in
+    let the-sign-of = c .before .before .before .before .before .before .before .before .before .sign-of in
+    let the-behind-sign = c .before .before .before .before .before .before .before .behind-sign in
+    more-wrote _ _ _ _ _ (the-piece-start .ensures) _ _ _ _ _ _ (the-sign-of .ensures) (the-behind-sign .ensures) (c .before .before .put-copies .ensures)
 
 pub put-more-spec : {M : Type 1} → statement M
 put-more-spec =

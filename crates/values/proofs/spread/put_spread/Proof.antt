@@ -28,7 +28,10 @@ same-length : tie.Need-same-length Inv-loop μ-loop
 same-length c = search needs
 
 returns : tie.Need-returns Inv-loop μ-loop
-returns c = spreading-end _ _ _ _ _ _ _ (spreading-start _ _ _ _ (c .before .before .before .before .before .before .before .pre .3) (c .before .before .before .before .before .before .before .pre .4)) _ (last-short _ 0 (omega arith) (omega (arith, c .before .before .before .before .if1 .taken))) _ _ (omega arith) (c .before .before .put-part .ensures)
+returns c =
+    let start = c .before .before .before .before .before .before .before in
+    let the-if1 = c .before .before .before .before .if1 in
+    spreading-end _ _ _ _ _ _ _ (spreading-start _ _ _ _ (start .pre .3) (start .pre .4)) _ (last-short _ 0 (omega arith) (omega (arith, the-if1 .taken))) _ _ (omega arith) (c .before .before .put-part .ensures)
 
 wide-requires : tie.Need-wide-requires Inv-loop μ-loop
 wide-requires c κs = search needs
@@ -40,37 +43,71 @@ past-requires : tie.Need-past-requires Inv-loop μ-loop
 past-requires c κs = search needs
 
 returns-2 : tie.Need-returns-2 Inv-loop μ-loop
-returns-2 c = spread-behind _ _ _ _ _ _ _ (c .before .before .before .wide .ensures .0) (c .before .before .if2 .taken) (c .before .spread-length .ensures) (c .past .ensures)
+returns-2 c =
+    let the-wide = c .before .before .before .wide in
+    spread-behind _ _ _ _ _ _ _ (the-wide .ensures .0) (c .before .before .if2 .taken) (c .before .spread-length .ensures) (c .past .ensures)
 
 loop-holds : tie.Need-loop-holds Inv-loop μ-loop
-loop-holds c = spreading-start _ _ _ _ (c .before .before .before .before .before .pre .3) (c .before .before .before .before .before .pre .4)
+loop-holds c =
+    let start = c .before .before .before .before .before in
+    spreading-start _ _ _ _ (start .pre .3) (start .pre .4)
 
 find-all-requires : tie.Need-find-all-requires Inv-loop μ-loop
 find-all-requires c κs = search needs
 
 put-part-requires-2 : tie.Need-put-part-requires-2 Inv-loop μ-loop
-put-part-requires-2 c κs = (c .before .before .find-all .ensures .free .low, c .before .before .find-all .ensures .free .high)
+put-part-requires-2 c κs =
+    let the-find-all = c .before .before .find-all in
+    (the-find-all .ensures .free .low, the-find-all .ensures .free .high)
 
 same-length-2 : tie.Need-same-length-2 Inv-loop μ-loop
-same-length-2 c = c .before .before .put-part2 .kept .1 .1 .1 .0 ∙ c .before .before .before .before .before .before .loop .inv .left .long
+same-length-2 c =
+    let the-loop = c .before .before .before .before .before .before .loop in
+    c .before .before .put-part2 .kept .1 .1 .1 .0 ∙ the-loop .inv .left .long
 
 returns-3 : tie.Need-returns-3 Inv-loop μ-loop
-returns-3 c = spreading-end _ _ _ _ _ _ _ (c .before .before .before .before .before .before .loop .inv) _ (c .before .before .before .before .before .find-all .ensures) _ _ (c .before .before .before .before .if3 .taken) (c .before .before .put-part2 .ensures)
+returns-3 c =
+    let the-loop = c .before .before .before .before .before .before .loop in
+    let the-find-all = c .before .before .before .before .before .find-all in
+    let the-if3 = c .before .before .before .before .if3 in
+    spreading-end _ _ _ _ _ _ _ (the-loop .inv) _ (the-find-all .ensures) _ _ (the-if3 .taken) (c .before .before .put-part2 .ensures)
 
 put-first-requires : tie.Need-put-first-requires Inv-loop μ-loop
-put-first-requires c κs = (c .before .before .find-all .ensures .free .low, c .before .before .find-all .ensures .free .high, omega (arith, c .before .before .before .loop .inv .left .long, c .before .before .before .before .before .before .before .before .before .pre .3), c .before .before .before .loop .inv .left .low)
+put-first-requires c κs =
+    let start = c .before .before .before .before .before .before .before .before .before in
+    let the-loop = c .before .before .before .loop in
+    let the-find-all = c .before .before .find-all in
+    (the-find-all .ensures .free .low, the-find-all .ensures .free .high, omega (arith, the-loop .inv .left .long, start .pre .3), the-loop .inv .left .low)
 
 put-more-requires : tie.Need-put-more-requires Inv-loop μ-loop
-put-more-requires c κs = let w = spreading-copies _ _ _ _ _ _ _ (c .before .before .before .before .before .before .before .loop .inv) _ (c .before .before .before .before .before .before .find-all .ensures) _ _ (c .before .before .before .before .before .if3 .left) (c .before .before .before .before .before .before .before .before .before .before .before .before .before .pre .0) (c .before .before .before .put-first .ensures) in (c .before .before .before .before .before .before .find-all .ensures .free .low, c .before .before .before .before .before .if3 .left, c .before .before .before .before .before .before .before .before .before .before .before .before .before .pre .0, c .before .before .before .before .before .before .before .before .before .before .before .before .before .pre .1, c .before .before .before .before .before .before .before .before .before .before .before .before .before .pre .2, omega (arith, w .long, c .before .before .before .before .before .before .before .before .before .before .before .before .before .pre .3), w .low)
+put-more-requires c κs =
+    let start = c .before .before .before .before .before .before .before .before .before .before .before .before .before in
+    let the-loop = c .before .before .before .before .before .before .before .loop in
+    let the-find-all = c .before .before .before .before .before .before .find-all in
+    let the-if3 = c .before .before .before .before .before .if3 in
+    let the-put-first = c .before .before .before .put-first in
+    let w = spreading-copies _ _ _ _ _ _ _ (the-loop .inv) _ (the-find-all .ensures) _ _ (the-if3 .left) (start .pre .0) (the-put-first .ensures) in (the-find-all .ensures .free .low, the-if3 .left, start .pre .0, start .pre .1, start .pre .2, omega (arith, w .long, start .pre .3), w .low)
 
 add-i : tie.Need-add-i Inv-loop μ-loop
-add-i c = omega (arith, c .before .before .before .before .before .before .before .before .before .find-all .ensures .free .high, c .before .before .before .before .before .before .before .before .before .before .before .before .before .before .before .before .pre .2)
+add-i c =
+    let start = c .before .before .before .before .before .before .before .before .before .before .before .before .before .before .before .before in
+    let the-find-all = c .before .before .before .before .before .before .before .before .before .find-all in
+    omega (arith, the-find-all .ensures .free .high, start .pre .2)
 
 loop-less : tie.Need-loop-less Inv-loop μ-loop
-loop-less c = omega (arith, c .before .before .before .before .before .before .before .before .before .find-all .ensures .free .low, c .before .before .before .before .before .before .before .before .if3 .left)
+loop-less c =
+    let the-find-all = c .before .before .before .before .before .before .before .before .before .find-all in
+    let the-if3 = c .before .before .before .before .before .before .before .before .if3 in
+    omega (arith, the-find-all .ensures .free .low, the-if3 .left)
 
 loop-again : tie.Need-loop-again Inv-loop μ-loop
-loop-again c = spreading-more _ _ _ _ _ _ _ (c .before .before .before .before .before .before .before .before .before .before .loop .inv) _ (c .before .before .before .before .before .before .before .before .before .find-all .ensures) _ _ (c .before .before .before .before .before .before .before .before .if3 .left) (c .before .before .before .before .before .before .before .before .before .before .before .before .before .before .before .before .pre .0) (c .before .before .before .before .before .before .put-first .ensures) _ _ (c .before .before .put-more .ensures)
+loop-again c =
+    let start = c .before .before .before .before .before .before .before .before .before .before .before .before .before .before .before .before in
+    let the-loop = c .before .before .before .before .before .before .before .before .before .before .loop in
+    let the-find-all = c .before .before .before .before .before .before .before .before .before .find-all in
+    let the-if3 = c .before .before .before .before .before .before .before .before .if3 in
+    let the-put-first = c .before .before .before .before .before .before .put-first in
+    spreading-more _ _ _ _ _ _ _ (the-loop .inv) _ (the-find-all .ensures) _ _ (the-if3 .left) (start .pre .0) (the-put-first .ensures) _ _ (c .before .before .put-more .ensures)
 
 pub put-spread-spec : {M : Type 1} → statement M
 put-spread-spec =

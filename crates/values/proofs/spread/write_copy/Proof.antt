@@ -15,7 +15,9 @@ add-copy : tie.Need-add-copy
 add-copy c = search needs
 
 copy-requires : tie.Need-copy-requires
-copy-requires c κs = (omega arith, omega arith, omega (arith, length-set (c .before .before .before .args .out .now) (c .before .before .before .args .at) (c .before .before .before .args .sign), c .before .before .before .pre .3))
+copy-requires c κs =
+    let start = c .before .before .before in
+    (omega arith, omega arith, omega (arith, length-set (start .args .out .now) (start .args .at) (start .args .sign), start .pre .3))
 
 add-out : tie.Need-add-out
 add-out c = search needs
@@ -24,7 +26,9 @@ add-out-2 : tie.Need-add-out-2
 add-out-2 c = search needs
 
 slice-write-out-2 : tie.Need-slice-write-out-2
-slice-write-out-2 c = colon-digit-inside (c .before .before .before .before .before .before .args .out .now) _ (c .before .before .before .before .before .before .args .sign) (c .before .before .before .before .before .before .args .rest .now) (c .before .before .before .before .before .before .args .at) (c .before .before .before .before .before .before .pre .3) (c .before .before .copy .ensures) .0
+slice-write-out-2 c =
+    let start = c .before .before .before .before .before .before in
+    colon-digit-inside (start .args .out .now) _ (start .args .sign) (start .args .rest .now) (start .args .at) (start .pre .3) (c .before .before .copy .ensures) .0
 
 add-out-3 : tie.Need-add-out-3
 add-out-3 c = search needs
@@ -39,7 +43,9 @@ add-out-5 : tie.Need-add-out-5
 add-out-5 c = search needs
 
 slice-write-out-3 : tie.Need-slice-write-out-3
-slice-write-out-3 c = colon-digit-inside (c .before .before .before .before .before .before .args .out .now) _ (c .before .before .before .before .before .before .args .sign) (c .before .before .before .before .before .before .args .rest .now) (c .before .before .before .before .before .before .args .at) (c .before .before .before .before .before .before .pre .3) (c .before .before .copy .ensures) .1
+slice-write-out-3 c =
+    let start = c .before .before .before .before .before .before in
+    colon-digit-inside (start .args .out .now) _ (start .args .sign) (start .args .rest .now) (start .args .at) (start .pre .3) (c .before .before .copy .ensures) .1
 
 add-result : tie.Need-add-result
 add-result c = search needs
@@ -48,10 +54,14 @@ add-result-2 : tie.Need-add-result-2
 add-result-2 c = search needs
 
 same-length : tie.Need-same-length
-same-length c = copy-long (c .before .before .before .before .before .before .args .out .now) _ _ (c .before .before .before .before .before .before .args .sign) (c .before .before .before .before .before .before .args .at) _ _ _ _ _ (c .before .before .copy .ensures)
+same-length c =
+    let start = c .before .before .before .before .before .before in
+    copy-long (start .args .out .now) _ _ (start .args .sign) (start .args .at) _ _ _ _ _ (c .before .before .copy .ensures)
 
 returns : tie.Need-returns
-returns c = (copy-written (c .before .before .before .before .before .before .args .out .now) _ (c .before .before .before .before .before .before .args .sign) (c .before .before .before .before .before .before .args .rest .now) (c .before .before .before .before .before .before .args .k) (c .before .before .before .before .before .before .args .at) (c .before .before .before .before .before .before .pre .0) (c .before .before .before .before .before .before .pre .1) (c .before .before .before .before .before .before .pre .2) (c .before .before .copy .ensures), refl)
+returns c =
+    let start = c .before .before .before .before .before .before in
+    (copy-written (start .args .out .now) _ (start .args .sign) (start .args .rest .now) (start .args .k) (start .args .at) (start .pre .0) (start .pre .1) (start .pre .2) (c .before .before .copy .ensures), refl)
 
 pub write-copy-spec : {M : Type 1} → statement M
 write-copy-spec =

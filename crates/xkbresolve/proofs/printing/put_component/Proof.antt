@@ -19,7 +19,12 @@ same-length : tie.Need-same-length
 same-length c = search needs
 
 returns : tie.Need-returns
-returns c = wrote-component _ _ _ _ _ _ _ _ _ _ (c .before .before .before .before .before .before .before .before .before .before .before .before .before .before .before .before .pre) (c .before .before .before .before .before .before .before .before .before .before .before .put-text .ensures) (rw (← c .before .before .before .before .before .before .before .before .component .ensures) (c .before .before .before .before .before .before .put-text2 .ensures)) (c .before .before .put-byte .ensures)
+returns c =
+    let start = c .before .before .before .before .before .before .before .before .before .before .before .before .before .before .before .before in
+    let the-put-text = c .before .before .before .before .before .before .before .before .before .before .before .put-text in
+    let the-component = c .before .before .before .before .before .before .before .before .component in
+    let the-put-text2 = c .before .before .before .before .before .before .put-text2 in
+    wrote-component _ _ _ _ _ _ _ _ _ _ (start .pre) (the-put-text .ensures) (rw (← the-component .ensures) (the-put-text2 .ensures)) (c .before .before .put-byte .ensures)
 
 pub put-component-spec : {M : Type 1} → statement M
 put-component-spec =

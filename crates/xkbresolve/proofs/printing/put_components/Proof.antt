@@ -39,7 +39,13 @@ same-length c = search needs
 
 returns : tie.Need-returns
 unfolding bytes
-returns c = wrote-components _ _ _ _ _ _ _ _ _ _ _ _ _ (c .before .before .before .before .before .before .before .before .before .before .before .before .before .before .before .before .before .before .before .before .before .before .before .before .before .before .before .pre) (c .before .before .before .before .before .before .before .before .before .before .before .before .before .before .before .before .before .before .before .before .before .before .put-component .ensures) (c .before .before .before .before .before .before .before .before .before .before .before .before .before .before .before .before .before .put-component2 .ensures) (c .before .before .before .before .before .before .before .before .before .before .before .before .put-component3 .ensures) (c .before .before .before .before .before .before .before .put-component4 .ensures) (c .before .before .put-component5 .ensures)
+returns c =
+    let start = c .before .before .before .before .before .before .before .before .before .before .before .before .before .before .before .before .before .before .before .before .before .before .before .before .before .before .before in
+    let the-put-component = c .before .before .before .before .before .before .before .before .before .before .before .before .before .before .before .before .before .before .before .before .before .before .put-component in
+    let the-put-component2 = c .before .before .before .before .before .before .before .before .before .before .before .before .before .before .before .before .before .put-component2 in
+    let the-put-component3 = c .before .before .before .before .before .before .before .before .before .before .before .before .put-component3 in
+    let the-put-component4 = c .before .before .before .before .before .before .before .put-component4 in
+    wrote-components _ _ _ _ _ _ _ _ _ _ _ _ _ (start .pre) (the-put-component .ensures) (the-put-component2 .ensures) (the-put-component3 .ensures) (the-put-component4 .ensures) (c .before .before .put-component5 .ensures)
 
 pub put-components-spec : {M : Type 1} → statement M
 put-components-spec =

@@ -30,7 +30,13 @@ same-length c = search needs
 
 returns : tie.Need-returns
 unfolding bytes
-returns c = wrote-refusal _ _ _ _ _ _ _ _ _ _ _ _ _ (c .before .before .before .before .before .before .before .before .before .before .before .before .before .before .before .before .before .before .before .before .before .before .before .pre) (c .before .before .before .before .before .before .before .before .before .before .before .before .before .before .before .before .before .before .before .put-text .ensures) (c .before .before .before .before .before .before .before .before .before .before .before .before .before .before .before .put-decimal .ensures) (c .before .before .before .before .before .before .before .before .before .before .put-text2 .ensures) (c .before .before .before .before .before .before .put-decimal2 .ensures) (c .before .before .put-byte .ensures)
+returns c =
+    let start = c .before .before .before .before .before .before .before .before .before .before .before .before .before .before .before .before .before .before .before .before .before .before .before in
+    let the-put-text = c .before .before .before .before .before .before .before .before .before .before .before .before .before .before .before .before .before .before .before .put-text in
+    let the-put-decimal = c .before .before .before .before .before .before .before .before .before .before .before .before .before .before .before .put-decimal in
+    let the-put-text2 = c .before .before .before .before .before .before .before .before .before .before .put-text2 in
+    let the-put-decimal2 = c .before .before .before .before .before .before .put-decimal2 in
+    wrote-refusal _ _ _ _ _ _ _ _ _ _ _ _ _ (start .pre) (the-put-text .ensures) (the-put-decimal .ensures) (the-put-text2 .ensures) (the-put-decimal2 .ensures) (c .before .before .put-byte .ensures)
 
 pub put-refusal-spec : {M : Type 1} → statement M
 put-refusal-spec =

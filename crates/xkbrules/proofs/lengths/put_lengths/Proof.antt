@@ -35,13 +35,21 @@ loop-less : tie.Need-loop-less Inv-loop μ-loop
 loop-less c = search needs
 
 loop-again : tie.Need-loop-again Inv-loop μ-loop
-loop-again c = (omega arith, c .before .before .put-number .kept .0 ∙ c .before .before .before .before .before .loop .inv .1, put-more (c .before .before .before .before .before .before .before .args .sheet .now) (c .before .before .before .before .before .before .before .args .t2) 10 (c .before .before .before .before .before .loop .i) _ _ _ (c .before .before .before .before .before .before .before .good .1 .0 .1 .0 .1) (c .before .before .before .before .loop-test .taken) refl (c .before .before .before .before .before .loop .inv .2) (c .before .before .put-number .ensures))
+loop-again c =
+    let start = c .before .before .before .before .before .before .before in
+    let the-loop = c .before .before .before .before .before .loop in
+    let the-loop-test = c .before .before .before .before .loop-test in
+    let the-put-number = c .before .before .put-number in
+    (omega arith, the-put-number .kept .0 ∙ the-loop .inv .1, put-more (start .args .sheet .now) (start .args .t2) 10 (the-loop .i) _ _ _ (start .good .1 .0 .1 .0 .1) (the-loop-test .taken) refl (the-loop .inv .2) (the-put-number .ensures))
 
 same-length : tie.Need-same-length Inv-loop μ-loop
 same-length c = search needs
 
 returns : tie.Need-returns Inv-loop μ-loop
-returns c = put-all _ (c .before .before .before .args .t2) 10 _ _ (c .before .before .before .good .1 .0 .1 .0 .1) (c .before .loop .inv .0) (c .loop-test .left) (c .before .loop .inv .2)
+returns c =
+    let start = c .before .before .before in
+    let the-loop = c .before .loop in
+    put-all _ (start .args .t2) 10 _ _ (start .good .1 .0 .1 .0 .1) (the-loop .inv .0) (c .loop-test .left) (the-loop .inv .2)
 
 pub put-lengths-spec : {M : Type 1} → statement M
 put-lengths-spec =

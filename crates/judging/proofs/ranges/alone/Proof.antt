@@ -1,6 +1,6 @@
-use Rattle.reading.proofs.LayoutRange.{alone-one, alone-none}
-use Rattle.reading.proofs.ranges.alone.Statement.{statement}
-use Rattle.reading.proofs.ranges.alone.Tie as tie
+use Rattle.judging.proofs.LayoutRange.{alone-one, alone-none}
+use Rattle.judging.proofs.ranges.alone.Statement.{statement}
+use Rattle.judging.proofs.ranges.alone.Tie as tie
 
 returns : tie.Need-returns
 returns c = alone-one _ (c .if1 .taken)

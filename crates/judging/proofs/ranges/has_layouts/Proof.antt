@@ -1,7 +1,7 @@
 use borrow.Author.Needs.{needs}
 use Rattle.rules.specs.Held.{headingBy}
-use Rattle.reading.proofs.ranges.has_layouts.Statement.{statement}
-use Rattle.reading.proofs.ranges.has_layouts.Tie as tie
+use Rattle.judging.proofs.ranges.has_layouts.Statement.{statement}
+use Rattle.judging.proofs.ranges.has_layouts.Tie as tie
 
 layouts-among-requires : tie.Need-layouts-among-requires
 layouts-among-requires c κs = search needs

@@ -1,7 +1,7 @@
 use borrow.Author.Needs.{needs}
-use Rattle.reading.proofs.LayoutRange.{at-absent, at-single, at-first, at-later-none, at-later, at-any, at-wrong, at-number, at-lone, at-beyond}
-use Rattle.reading.proofs.ranges.range_of.Statement.{statement}
-use Rattle.reading.proofs.ranges.range_of.Tie as tie
+use Rattle.judging.proofs.LayoutRange.{at-absent, at-single, at-first, at-later-none, at-later, at-any, at-wrong, at-number, at-lone, at-beyond}
+use Rattle.judging.proofs.ranges.range_of.Statement.{statement}
+use Rattle.judging.proofs.ranges.range_of.Tie as tie
 
 enum-told : tie.Need-enum-told
 enum-told c = search needs

@@ -17,7 +17,7 @@ use Rattle.rules.specs.declared.SetHeading.{SetHeading}
 use Rattle.rules.specs.declared.Index.{Index}
 use Rattle.rules.specs.declared.Index.the-variants as index
 use Rattle.rules.specs.Headings.{upFrom}
-use Rattle.reading.specs.declared.Range.{Range}
+use Rattle.judging.specs.declared.Range.{Range}
 use Rattle.answers.specs.Layouts.{layoutsAt, perLayout, layoutsOf}
 use Rattle.answers.specs.Matching.{isOptions}
 use Rattle.answers.proofs.Layouts.{up-length}

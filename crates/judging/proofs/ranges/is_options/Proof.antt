@@ -1,6 +1,6 @@
-use Rattle.reading.proofs.LayoutRange.{options-not, options-low, options-high}
-use Rattle.reading.proofs.ranges.is_options.Statement.{statement}
-use Rattle.reading.proofs.ranges.is_options.Tie as tie
+use Rattle.judging.proofs.LayoutRange.{options-not, options-low, options-high}
+use Rattle.judging.proofs.ranges.is_options.Statement.{statement}
+use Rattle.judging.proofs.ranges.is_options.Tie as tie
 
 returns : tie.Need-returns
 returns c = options-not _ (c .before .if1 .left) (c .if2 .taken)

@@ -1,8 +1,8 @@
 use borrow.Author.Needs.{needs}
 use mathlib.Core.Path.{sym, _∙_}
-use Rattle.reading.proofs.LayoutRange.{range-layouts, range-once}
-use Rattle.reading.proofs.ranges.layout_range.Statement.{statement}
-use Rattle.reading.proofs.ranges.layout_range.Tie as tie
+use Rattle.judging.proofs.LayoutRange.{range-layouts, range-once}
+use Rattle.judging.proofs.ranges.layout_range.Statement.{statement}
+use Rattle.judging.proofs.ranges.layout_range.Tie as tie
 
 has-layouts-requires : tie.Need-has-layouts-requires
 has-layouts-requires c κs = search needs

@@ -1,7 +1,7 @@
 use borrow.Author.Needs.{needs}
 use Rattle.rules.specs.Held.{headingBy}
-use Rattle.reading.proofs.ranges.has_options.Statement.{statement}
-use Rattle.reading.proofs.ranges.has_options.Tie as tie
+use Rattle.judging.proofs.ranges.has_options.Statement.{statement}
+use Rattle.judging.proofs.ranges.has_options.Tie as tie
 
 options-among-requires : tie.Need-options-among-requires
 options-among-requires c κs = search needs

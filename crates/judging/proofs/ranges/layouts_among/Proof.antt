@@ -3,9 +3,9 @@ use Prim.Native.Nat.{_-_}
 use native.Mathlib.Omega.{arith}
 use mathlib.Core.Path.{sym, _∙_}
 use Rattle.answers.specs.Layouts.{perLayout}
-use Rattle.reading.proofs.LayoutRange.{ColumnsFrom, columns-start, columns-more, columns-hit, columns-end}
-use Rattle.reading.proofs.ranges.layouts_among.Statement.{statement}
-use Rattle.reading.proofs.ranges.layouts_among.Tie as tie
+use Rattle.judging.proofs.LayoutRange.{ColumnsFrom, columns-start, columns-more, columns-hit, columns-end}
+use Rattle.judging.proofs.ranges.layouts_among.Statement.{statement}
+use Rattle.judging.proofs.ranges.layouts_among.Tie as tie
 
 abbrev Inv-loop : tie.InvT-loop
 Inv-loop left columns i₀ i = ColumnsFrom perLayout columns left i

@@ -1,6 +1,6 @@
-use Rattle.reading.proofs.LayoutRange.{layouts-yes, layouts-low, layouts-high}
-use Rattle.reading.proofs.ranges.is_per_layout.Statement.{statement}
-use Rattle.reading.proofs.ranges.is_per_layout.Tie as tie
+use Rattle.judging.proofs.LayoutRange.{layouts-yes, layouts-low, layouts-high}
+use Rattle.judging.proofs.ranges.is_per_layout.Statement.{statement}
+use Rattle.judging.proofs.ranges.is_per_layout.Tie as tie
 
 returns : tie.Need-returns
 returns c = layouts-yes _ (c .before .if1 .left) (c .if2 .taken)
