@@ -16,7 +16,7 @@ abbrev μ-loop : tie.MeasureT-loop
 μ-loop s i₀ i = length s - i
 
 loop-holds : tie.Need-loop-holds Inv-loop μ-loop
-loop-holds c = (omega arith, line-start (now (c .args .s)))
+loop-holds c = (omega arith, line-start (now (c .before .args .s)))
 
 shared-slice-read-ends-line : tie.Need-shared-slice-read-ends-line Inv-loop μ-loop
 shared-slice-read-ends-line c = search needs
@@ -41,7 +41,7 @@ loop-less c = search needs
 
 loop-again : tie.Need-loop-again Inv-loop μ-loop
 loop-again c =
-    let start = c .before .before .before .before .before .before in
+    let start = c .before .before .before .before .before .before .before in
     (omega arith, line-on (now (start .args .s)) _ (c .before .before .before .before .before .loop .inv .1) (c .before .before .before .before .loop-test .taken) (cc))
 
 returns-2 : tie.Need-returns-2 Inv-loop μ-loop
