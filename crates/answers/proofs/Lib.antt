@@ -6,3 +6,4 @@ pub mod Answers
 pub mod Stretch
 pub mod Accepted
 pub mod Places
+pub mod AllLayouts
