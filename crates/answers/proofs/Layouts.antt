@@ -2,7 +2,7 @@
 use Prim.Native.Nat.{ℕ, zero, suc, _+_, _-_, _≤_, _<_}
 use native.Mathlib.Omega.{arith}
 use mathlib.Core.Path.{_≡_, refl, ap, _∙_}
-use mathlib.Core.List.{[], _∷_}
+use mathlib.Core.List.{[], _∷_, _++_}
 use mathlib.Core.Bool.{Bool, true, false, _&&_, cond}
 use lib.ListN.{length}
 use lib.Dec.{ltb, leb}
@@ -34,8 +34,8 @@ pub several-plain : (n : ℕ) → 1 < n → (layoutsAt n index.Absent ≡ []) ×
 unfolding layoutsAt
 several-plain n h = (rw (ne-eqb n 1 (omega arith)), rw (ne-eqb n 1 (omega arith)))
 
--- `any` is layout 1 and then those of `later`
-pub any-later : (n : ℕ) → 0 < n → layoutsAt n index.Any ≡ 1 ∷ layoutsAt n index.Later
+-- `any` is `first`, which is once, and then `later`
+pub any-later : (n : ℕ) → 0 < n → layoutsAt n index.Any ≡ layoutsAt n index.First ++ layoutsAt n index.Later
 unfolding layoutsAt upFrom
 any-later n h = let e : n ≡ suc (n - 1) = omega arith in ap (λ (m : ℕ). upFrom m 1) e ∙ step (n - 1)
   where

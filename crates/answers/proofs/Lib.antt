@@ -7,3 +7,4 @@ pub mod Stretch
 pub mod Accepted
 pub mod Places
 pub mod LineEnds
+pub mod AllLayouts

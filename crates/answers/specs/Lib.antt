@@ -4,3 +4,4 @@ pub mod Firings
 pub mod Components
 pub mod Answer
 pub mod Joined
+pub mod Spellings

@@ -2,23 +2,30 @@
 -- `answer` is the answer of a resolve; `entryAnswer` is that of the entry for C, which is lent a sheet for the lengths besides.
 use Prim.Native.Nat.{ℕ, _+_, _*_, _^_, _≤_, _<_}
 use mathlib.Core.Path.{_≡_, sym, ap, _∙_}
-use mathlib.Core.List.{List, [], _++_, map}
+use mathlib.Core.List.{List, [], _∷_, _++_, map}
 use mathlib.Core.Bool.{true}
 use lib.ListN.{length, drop, getD, replicate}
 use Rattle.text.specs.declared.Refusal.{Refusal}
 use Rattle.text.specs.Limits.{longestFile, longestTotal, mostGroups, mostLayouts, mostOptions}
-use Rattle.text.specs.Bytes.{Text, apart}
+use Rattle.text.specs.Bytes.{Text, bytes as word, apart}
 use Rattle.text.specs.Lines.{closed, crlf, noReturn}
 use Rattle.text.proofs.LineEnds.{crlf-closed}
-use Rattle.profile.specs.Profile.{Texts, profileOf, layoutCount, optionsOf}
+use Rattle.profile.specs.Profile.{Texts, Profile, profileOf, layoutCount, optionsOf}
 use Rattle.profile.specs.Options.{Alike, Within, withOptions}
 use Rattle.profile.proofs.Counts as counted
 use Rattle.rules.specs.Names.{definesOf, namesOf}
-use Rattle.answers.specs.Firings.{fileFirings}
+use Rattle.rules.specs.Headings.{componentOf}
+use Rattle.rules.specs.Keywords.{keywords, AllExact}
+use Rattle.rules.proofs.Keywords as recognised
+use Rattle.rules.specs.Entries.{set, headingEntry}
+use Rattle.rules.specs.Sections.{Rule, applies}
+use Rattle.rules.specs.Faults.{Groups}
+use Rattle.answers.specs.Firings.{headFires, fileFirings}
 use Rattle.answers.specs.Components.{valuesOf, base, additions, updates}
 use Rattle.answers.specs.declared.Outcome.{Outcome}
 use Rattle.answers.specs.Answer.{Answer, refused, accepted, answer, tenTexts, sum, total, numberOf, placeOf, lengthsOf, bufferAfter, stretchStart, stretchLength, stretch, Answered, Resolved, textsIn}
 use Rattle.answers.specs.Joined.{together}
+use Rattle.answers.specs.Spellings.{Entry, allHeading, allRule, anyHeading, anyRule, Spelled, NoneEmpty}
 use Rattle.answers.proofs.Updates.{stepwise}
 use Rattle.answers.proofs.Firings.{file-values}
 use Rattle.answers.proofs.Accepted as fits
@@ -26,6 +33,7 @@ use Rattle.answers.proofs.Answers as laws
 use Rattle.resolver.proofs.Resolutions as resolves
 use Rattle.answers.proofs.Stretch as parts
 use Rattle.answers.proofs.LineEnds as ends
+use Rattle.answers.proofs.AllLayouts as spellings
 use Rattle.xkbrules.specs.Sheet.{sheetLength, entryAnswer, sheetAfter, lengthsIn, componentCode}
 use Rattle.xkbrules.proofs.Sheet as sheets
 use Rattle.xkbrules.proofs.Entry as entry
@@ -71,6 +79,24 @@ counts room f t ts h = (fits.few-layouts room f t ts h, fits.few-variants room f
 pub update-stepwise : (f : Text) (t : Texts) (c : ℕ) →
     updates [] (valuesOf c (fileFirings f (profileOf t))) ≡ base (valuesOf c (fileFirings f (profileOf t))) ++ additions (valuesOf c (fileFirings f (profileOf t)))
 update-stepwise f t c = stepwise (valuesOf c (fileFirings f (profileOf t))) (file-values f (profileOf t) c)
+
+-- Document 02, #104: "Each of the thirteen (variant and option too) is recognised exactly where its own bytes stand": each word of the table, for every text.
+pub keywords-exact : AllExact keywords
+keywords-exact = recognised.keywords-exact
+
+-- Document 02, #105: entries for all layouts "in an order that differs from the `:all` spelling, which document 001 calls equivalent". Of sets with one
+-- component c, one has rules `o = +x:all` under `option`, the other `* o = +x:%i` under `layout[any] option`, with the same entries in the same order. For a
+-- profile whose layouts are all non-empty both give every component d the same texts.
+pub all-spelling : (gs : Groups) (p : Profile) (c d : ℕ) (es : List Entry) (rs rs′ : List Rule) → NoneEmpty p → Spelled allRule es rs → Spelled anyRule es rs′ →
+    (base (valuesOf d (headFires gs p (applies (allHeading c)) rs)) ≡ base (valuesOf d (headFires gs p (applies (anyHeading c)) rs′))) ×
+    (additions (valuesOf d (headFires gs p (applies (allHeading c)) rs)) ≡ additions (valuesOf d (headFires gs p (applies (anyHeading c)) rs′)))
+all-spelling gs p c d es rs rs′ n s s′ = (spellings.spelled-base gs p c d es rs rs′ n s s′, spellings.spelled-additions gs p c d es rs rs′ n s s′)
+
+-- These headings are what the words of the two heading lines mean, for each of the five component words w.
+pub spelled-headings : (w : Text) → componentOf w < 5 →
+    (headingEntry (word "option" ∷ word "=" ∷ w ∷ []) ≡ set (allHeading (componentOf w))) ×
+    (headingEntry (word "layout[any]" ∷ word "option" ∷ word "=" ∷ w ∷ []) ≡ set (anyHeading (componentOf w)))
+spelled-headings w h = (spellings.all-heading w h, spellings.any-heading w h)
 
 -- "The accepted answer is number 0, place 0 and ten lengths:
 pub accepted-values : (room : ℕ) (f : Text) (t : Texts) (ts : List Text) → answer room f t ≡ accepted ts →

@@ -27,8 +27,8 @@ use bitsets::without;
 use firing::Cursors;
 use names::Held;
 use rules::Index;
-use rules::SetHeading;
 use rules::NO_HEADING;
+use rules::SetHeading;
 use text::reader::fence_of;
 use text::table::TABLE;
 

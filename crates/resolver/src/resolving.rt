@@ -115,15 +115,7 @@ pub fn resolve(
         (now (buf .entry)) (now (buf .exit)) r ⌝ }
 {
     let mut stage: [u8; 5120] = [0; 5120];
-    let a = staged(
-        s,
-        model,
-        layouts,
-        variants,
-        options,
-        buf.len(),
-        &mut stage,
-    );
+    let a = staged(s, model, layouts, variants, options, buf.len(), &mut stage);
     if a.number != 0 {
         return a;
     }

@@ -16,3 +16,4 @@ pub mod Listings
 pub mod Sides
 pub mod PlainLines
 pub mod HeldHeadings
+pub mod Keywords

@@ -10,3 +10,4 @@ pub mod Checking
 pub mod Sets
 pub mod Plain
 pub mod Held
+pub mod Keywords

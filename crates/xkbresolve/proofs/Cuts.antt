@@ -109,8 +109,8 @@ module _ (s : Text) (e : ℕ) (found : e ≡ length (firstLine s)) where
       sym (from-end ∙
       ⊎-elim (λ (w : (z ≡ e + 1) × (getD s e 0 ≡ 10)). later-feed s e h (w .1) ∙ rw (w .0) refl)
       (λ (w : (z ≡ e + 2) × ((getD s e 0 ≡ 13) × (getD s (e + 1) 0 ≡ 10))).
-          let q : z ≡ e + 1 + 1 = omega (arith, w .0) in
-          later-return s e h (w .1 .0) ∙ (later-feed s (e + 1) (omega (arith, w .0, v .high)) (w .1 .1) ∙ rw q refl))
+      let q : z ≡ e + 1 + 1 = omega (arith, w .0) in
+      later-return s e h (w .1 .0) ∙ (later-feed s (e + 1) (omega (arith, w .0, v .high)) (w .1 .1) ∙ rw q refl))
       (v .cases))
     where
       h : e < length s

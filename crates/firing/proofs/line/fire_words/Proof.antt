@@ -83,9 +83,12 @@ loop-again c =
     let the-loop = c .before .before .before .before .before .before .before .before .before .before .before .before .before .loop in
     let the-word-at = c .before .before .before .before .before .before .before .before .before .before .before .word-at in
     let the-start = c .before .before .before .before .before .before .before .before .before .start in
-    let the-fire-value = c .before .before .before .before .fire-value in
-    (words-more _ _ _ _ _ _ _ _ _ _ _ _ _ (the-loop .inv .0) _ _ _ _ (found _ _ _ _ _ _ _ _ (the-start .given .1) (the-word-at .ensures)) (sym (length-map (entry .args .right .components) _) ∙ entry .good .1 .1 .1 .1 .1 .0 .1 .1 .1 .0 .1 .0 .1)
-    (omega (arith, entry .pre .1 .all, entry .pre .1 .few)) _ _ (the-fire-value .ensures .0), the-fire-value .ensures .1 ∙ the-loop .inv .1, the-fire-value .kept .1 .1 .1 .1 .1 .1 .1 .0 ∙ the-loop .inv .2)
+    let the-fire-value = c .before .before .before .before .fire-value in (
+      words-more _ _ _ _ _ _ _ _ _ _ _ _ _ (the-loop .inv .0) _ _ _ _ (found _ _ _ _ _ _ _ _ (the-start .given .1) (the-word-at .ensures)) (sym (length-map (entry .args .right .components) _) ∙ entry .good .1 .1 .1 .1 .1 .0 .1 .1 .1 .0 .1 .0 .1)
+          (omega (arith, entry .pre .1 .all, entry .pre .1 .few)) _ _ (the-fire-value .ensures .0),
+      the-fire-value .ensures .1 ∙ the-loop .inv .1,
+      the-fire-value .kept .1 .1 .1 .1 .1 .1 .1 .0 ∙ the-loop .inv .2,
+    )
 
 enum-told : tie.Need-enum-told Inv-loop μ-loop
 enum-told c = search needs

@@ -47,8 +47,8 @@ returns-4 c =
     let the-if2 = c .before .before .before .before .before .if2 in
     let the-right-end = c .before .before .before .right-end in
     λ z.
-        rule-read _ _ _ _ _ _ _ _ _ (the-left-end .ensures (the-if1 .left)) (the-byte-word .ensures (the-if2 .left)) (the-right-end .ensures (c .before .before .if3 .left)) (c .before .skip-fast .ensures .0 .blanks)
-        (feed-at _ _ _ (c .feed-end .ensures) z)
+    rule-read _ _ _ _ _ _ _ _ _ (the-left-end .ensures (the-if1 .left)) (the-byte-word .ensures (the-if2 .left)) (the-right-end .ensures (c .before .before .if3 .left)) (c .before .skip-fast .ensures .0 .blanks)
+    (feed-at _ _ _ (c .feed-end .ensures) z)
 
 pub rule-end-spec : {M : Type 1} → statement M
 rule-end-spec =
