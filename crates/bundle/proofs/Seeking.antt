@@ -4,12 +4,16 @@ use native.Mathlib.Omega.{arith}
 use mathlib.Core.Path.{_≡_, refl, sym, ap, _∙_}
 use mathlib.Core.List.{List, [], _∷_}
 use mathlib.Core.Bool.{Bool, true, false, cond}
-use lib.ListN.{length}
+use lib.ListN.{length, take, drop}
 use Rattle.text.specs.Bytes.{Text, same, part}
 use Rattle.bundle.specs.declared.Found.{Found}
 use Rattle.bundle.specs.Bundle.{File, pairAt, nameEnd, fileEnd, nameAt, fileAt, filesFrom, filesOf, whole, numberFrom, numberOf}
 use Rattle.bundle.specs.Search.{Finds, Passed, Seeking}
-use Rattle.bundle.proofs.Bundled.{passed-start, passed-files, passed-in, passed-next, passed-here}
+use Rattle.bundle.proofs.Bundled.{name-is, passed-start, passed-files, passed-in, passed-next, passed-here}
+
+pub named-by : (s : Text) (at p : ℕ) → p ≡ pairAt s at → (b : Text) (r : Bool) → r ≡ same (take (at + 2 + p - (at + 2)) (drop (at + 2) s)) b → r ≡ same (nameAt s at) b
+unfolding nameAt part
+named-by s at p e b r f = rw (name-is s at p e) at f
 
 pub seeking-start : (s b : Text) → whole s ≡ true → Seeking s b (pairAt s 0) 0 2
 unfolding numberOf filesOf
