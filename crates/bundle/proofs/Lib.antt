@@ -1,0 +1,4 @@
+pub mod Bundled
+pub mod Expanded
+pub mod Seeking
+pub mod Pieces
