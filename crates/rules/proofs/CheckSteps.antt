@@ -13,7 +13,6 @@ use Rattle.text.specs.Refusals.{refusedIf, refusedAs, firstRefusal}
 use Rattle.text.specs.Lines.{Line}
 use Rattle.text.specs.Reading.{Fenced}
 use Rattle.rules.specs.declared.Present.{Present}
-use Rattle.rules.specs.declared.LineKind.the-variants as kind
 use Rattle.rules.specs.Entries.{entryOf}
 use Rattle.rules.specs.Checking.{lineOf, lineFault, presentAfter, namesAfter, checkFrom}
 

@@ -10,7 +10,6 @@ use borrow.Author.Tests.{eq-eqb, ne-eqb}
 use Rattle.text.specs.Bytes.{Words, bytes, same, empty, anyOf}
 use Rattle.text.specs.Words.{wordsFault}
 use Rattle.rules.specs.declared.Tally.{Tally}
-use Rattle.rules.specs.declared.LineKind.the-variants as kind
 use Rattle.rules.specs.Words.{isEquals, hasDollar}
 use Rattle.rules.specs.Headings.{leftItem, componentOf, goodItems, headingOf}
 use Rattle.rules.specs.Entries.{ignored, wrong, set, rule, before, after, setShape, setEntry, groupEntry, headingEntry, ruleEntry, entryOf}

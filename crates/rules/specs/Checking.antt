@@ -10,7 +10,6 @@ use Rattle.text.specs.Bytes.{Text, Words, same, allOf, anyOf}
 use Rattle.text.specs.Refusals.{refusedAs}
 use Rattle.text.specs.Lines.{Line}
 use Rattle.rules.specs.declared.Present.{Present}
-use Rattle.rules.specs.declared.LineKind.the-variants as kind
 use Rattle.rules.specs.declared.Index.{Index}
 use Rattle.rules.specs.declared.SetHeading.{SetHeading}
 use Rattle.rules.specs.Words.{ordinary}
