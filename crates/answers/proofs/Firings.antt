@@ -45,7 +45,8 @@ rule-fires-moved : (p : Profile) (m : Move) (n : Spot) (k : ℕ) (cs : List ℕ)
 unfolding ruleFires
 rule-fires-moved p m n k [] ws = refl
 rule-fires-moved p m n k (c ∷ cs) [] = refl
-rule-fires-moved p m n k (c ∷ cs) (w ∷ ws) = rw (fired-moved, rule-fires-moved p m n k cs ws, map-append)
+rule-fires-moved p m n k (c ∷ cs) (w ∷ ws) =
+    rw (fired-moved m n k c (expanded p k w), rule-fires-moved p m n k cs ws, map-append)
 
 at-moved : (p : Profile) (h : Heading) (m : Move) (r : Rule) (k : ℕ) → firesAt p h (movedRule m r) k ≡ map (movedFiring m) (firesAt p h r k)
 unfolding firesAt movedRule

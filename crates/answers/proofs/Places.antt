@@ -67,14 +67,15 @@ number-few k (f ∷ fs) b h = go (same (f .name) b) (number-few (k + 1) fs b (om
 bytes-short : (k : ℕ) (fs : List File) (j : ℕ) → 1 ≤ k → longFrom k fs ≡ 0 → length (bytesFrom k fs j) ≤ longestFile
 unfolding longFrom bytesFrom
 bytes-short k [] j h e = omega arith
-bytes-short k (f ∷ fs) j h e = go (ltb longestFile (length (f .bytes))) refl e
+bytes-short k (f ∷ fs) j h e = go (ltb longestFile (length (f .bytes))) refl e (bytes-short (k + 1) fs j (omega arith))
   where
     by : (t : Bool) → length (f .bytes) ≤ longestFile → length (bytesFrom (k + 1) fs j) ≤ longestFile → length (cond t (f .bytes) (bytesFrom (k + 1) fs j)) ≤ longestFile
     by true p q = p
     by false p q = q
-    go : (t : Bool) → ltb longestFile (length (f .bytes)) ≡ t → cond t k (longFrom (k + 1) fs) ≡ 0 → length (cond (eqb k j) (f .bytes) (bytesFrom (k + 1) fs j)) ≤ longestFile
-    go true p q = absurd (omega arith)
-    go false p q = by (eqb k j) (ltb-false longestFile (length (f .bytes)) p) (bytes-short (k + 1) fs j (omega arith) q)
+    go : (t : Bool) → ltb longestFile (length (f .bytes)) ≡ t → cond t k (longFrom (k + 1) fs) ≡ 0 →
+        (longFrom (k + 1) fs ≡ 0 → length (bytesFrom (k + 1) fs j) ≤ longestFile) → length (cond (eqb k j) (f .bytes) (bytesFrom (k + 1) fs j)) ≤ longestFile
+    go true p q l = absurd (omega arith)
+    go false p q l = by (eqb k j) (ltb-false longestFile (length (f .bytes)) p) (l q)
 
 -- the last line of the last file
 

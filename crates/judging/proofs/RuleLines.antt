@@ -23,7 +23,7 @@ use Rattle.rules.specs.Plain.{RuleRead}
 use Rattle.rules.specs.Checking.{lineOf, presentFault, lineFault}
 use Rattle.rules.proofs.PlainLines.{passes-rule, passes-none}
 use Rattle.rules.proofs.LineKinds.{line-wrong, line-ignored, line-rule}
-use Rattle.rules.proofs.CheckSteps.{refused-first, check-cons, entry-any}
+use Rattle.rules.proofs.CheckSteps.{entry-any}
 use Rattle.judging.specs.declared.Judged.{Judged}
 use Rattle.judging.specs.Lines.{RestRead, WordsJudged, RuleLineRead, LineRefused}
 
@@ -133,6 +133,8 @@ module _ (s : Text) (at n : ℕ) (p : Present) (b : Bool) (from m : ℕ) (lt : a
     words-refused h =
         record {
           some = h;
-          first = λ ns.
-              rw (line-opened z, check-cons, entry-any n false (left s from), ← w .fault ns) (refused-first (j .fault) n _ h);
+          words = left s from;
+          more = ahead s from m;
+          read = line-opened z;
+          fault = λ ns. rw (entry-any n false (left s from)) (sym (w .fault ns));
         }

@@ -16,7 +16,7 @@ returns : tie.Need-returns
 returns c =
     let start = c .before .before .before .before in
     let the-if1 = c .before .if1 in
-    set-refused _ _ _ (the-if1 .taken) (line-wrong _ _ _ _ (start .pre .0 .fault) (the-if1 .taken)) (c .refused-set .ensures)
+    set-refused _ _ _ _ (the-if1 .taken) (line-wrong _ _ _ _ (start .pre .0 .fault) (the-if1 .taken)) (c .refused-set .ensures)
 
 refused-set-requires-2 : tie.Need-refused-set-requires-2
 refused-set-requires-2 c κs = search needs
@@ -25,7 +25,7 @@ returns-2 : tie.Need-returns-2
 returns-2 c =
     let start = c .before .before .before .before .before .before .before in
     let the-if1 = c .before .before .before .before .if1 in
-    set-refused _ 6 _ (λ (z : _≡_ {A = ℕ} 6 0). omega arith) (line-heading _ _ _ _ (start .pre .0 .fault) (the-if1 .left) refl ∙ heading-none (wordsOf (start .args .w .now)) (sym (start .pre .0 .count) ∙ c .before .if2 .taken)) (c .refused-set2 .ensures)
+    set-refused _ _ 6 _ (λ (z : _≡_ {A = ℕ} 6 0). omega arith) (line-heading _ _ _ _ (start .pre .0 .fault) (the-if1 .left) refl ∙ heading-none (wordsOf (start .args .w .now)) (sym (start .pre .0 .count) ∙ c .before .if2 .taken)) (c .refused-set2 .ensures)
 
 word-requires : tie.Need-word-requires
 word-requires c κs = search needs
@@ -46,7 +46,7 @@ returns-3 c =
     let the-if1 = c .before .before .before .before .before .before .before .before .if1 in
     let the-if2 = c .before .before .before .before .before .if2 in
     let the-word = c .before .before .before .before .word in
-    set-refused _ 9 _ (λ (z : _≡_ {A = ℕ} 9 0). omega arith) (line-heading _ _ _ _ (start .pre .0 .fault) (the-if1 .left) refl ∙ heading-include (wordsOf (start .args .w .now)) (omega (arith, start .pre .0 .count, the-if2 .left)) (start .pre .1)
+    set-refused _ _ 9 _ (λ (z : _≡_ {A = ℕ} 9 0). omega arith) (line-heading _ _ _ _ (start .pre .0 .fault) (the-if1 .left) refl ∙ heading-include (wordsOf (start .args .w .now)) (omega (arith, start .pre .0 .count, the-if2 .left)) (start .pre .1)
     (ap (λ x. same x (bytes "include")) (sym (the-word .ensures)) ∙ (sym (c .before .before .same .ensures) ∙ c .before .if3 .taken))) (c .refused-set3 .ensures)
 
 judge-set-requires : tie.Need-judge-set-requires
@@ -61,7 +61,7 @@ returns-4 c =
     let the-if1 = c .before .before .before .before .before .before .before .before .if1 in
     let the-if2 = c .before .before .before .before .before .if2 in
     let the-word = c .before .before .before .before .word in
-    set-as _ _ _ (line-heading _ _ _ _ (start .pre .0 .fault) (the-if1 .left) refl ∙ heading-set (wordsOf (start .args .w .now)) (omega (arith, start .pre .0 .count, the-if2 .left)) (start .pre .1) (ap (λ x. same x (bytes "include")) (sym (the-word .ensures)) ∙ (sym (c .before .before .same .ensures) ∙ c .before .if3 .left))) (c .judge-set .ensures)
+    set-as _ _ _ _ (line-heading _ _ _ _ (start .pre .0 .fault) (the-if1 .left) refl ∙ heading-set (wordsOf (start .args .w .now)) (omega (arith, start .pre .0 .count, the-if2 .left)) (start .pre .1) (ap (λ x. same x (bytes "include")) (sym (the-word .ensures)) ∙ (sym (c .before .before .same .ensures) ∙ c .before .if3 .left))) (c .judge-set .ensures)
 
 pub judge-heading-spec : {M : Type 1} → statement M
 judge-heading-spec =
