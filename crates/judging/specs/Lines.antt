@@ -40,7 +40,7 @@ pub record RuleLineRead (s : Text) (at n : ℕ) (p : Present) (from m next n′ 
   pub fewer : n′ ≤ next + 1
   pub read : follow s at n ≡ lineOf n false (left s from) ∷ follow s next n′
   pub onto : ahead s from m ≡ follow s next n′
-  pub fault : (ns : List Text) → lineFault ns p (entryOf (lineOf n false (left s from))) ≡ 0
+  pub fault : (ns : List Text) → lineFault ns p (entryOf (lineOf 0 false (left s from))) ≡ 0
 
 -- the line is no heading, and refused with the number k, whatever groups there are
 pub record LineRefused (s : Text) (at n : ℕ) (p : Present) (k : ℕ) : Type 0 where
@@ -48,7 +48,7 @@ pub record LineRefused (s : Text) (at n : ℕ) (p : Present) (k : ℕ) : Type 0 
   pub words : Words
   pub more : List Line
   pub read : follow s at n ≡ lineOf n false words ∷ more
-  pub fault : (ns : List Text) → lineFault ns p (entryOf (lineOf n false words)) ≡ k
+  pub fault : (ns : List Text) → lineFault ns p (entryOf (lineOf 0 false words)) ≡ k
 
 abbrev pub RuleLineOf : Text → ℕ → ℕ → Present → RuleLine → Type 0
 RuleLineOf s at n p (line.Read from m next n′) = RuleLineRead s at n p from m next n′

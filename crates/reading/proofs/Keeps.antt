@@ -20,6 +20,7 @@ use Rattle.answers.specs.Firings.{Firing, ruleFires}
 use Rattle.bitsets.specs.Sets.{isIn}
 use Rattle.firing.specs.declared.Cursors.{Cursors}
 use Rattle.firing.specs.Writing.{runBuf, runCur, Low, FiredRule}
+use Rattle.rules.specs.Sections.{Spot}
 use Rattle.firing.specs.Line.{Fires, RightWords}
 use Rattle.firing.proofs.Going.{Going, going-start, going-more, going-end}
 use Rattle.rules.specs.Held.{headingBy, SetSized}
@@ -90,7 +91,7 @@ module _ (p : Profile) (o : OpenSet) (s : Text) (ps : List ℕ) (d₀ : Text) (q
   pub record KeptGoing (k : ℕ) (d : Text) (q : Cursors) : Type 0 where
     pub low : o .first ≤ k
     pub high : k ≤ o .first + o .count
-    pub going : (l : ℕ → ℕ) → Going d₀ q₀ (concatMap (placeFires p o s ps l) (layoutsIn o)) d q (concatMap (placeFires p o s ps l) (upFrom (o .first + o .count - k) k))
+    pub going : (l : ℕ → Spot) → Going d₀ q₀ (concatMap (placeFires p o s ps l) (layoutsIn o)) d q (concatMap (placeFires p o s ps l) (upFrom (o .first + o .count - k) k))
 
   pub kept-start : Low (q₀ .at) → KeptGoing (o .first) d₀ q₀
   kept-start h =
@@ -101,13 +102,13 @@ module _ (p : Profile) (o : OpenSet) (s : Text) (ps : List ℕ) (d₀ : Text) (q
     pub kept-end : o .first + o .count ≤ k → KeptFired p o s ps d₀ d q₀ q
     kept-end h = record { bytes = λ l. done l .0; places = λ l. done l .1 }
       where
-        done : (l : ℕ → ℕ) → (d ≡ runBuf d₀ q₀ (concatMap (placeFires p o s ps l) (layoutsIn o))) × (q ≡ runCur q₀ (concatMap (placeFires p o s ps l) (layoutsIn o)))
+        done : (l : ℕ → Spot) → (d ≡ runBuf d₀ q₀ (concatMap (placeFires p o s ps l) (layoutsIn o))) × (q ≡ runCur q₀ (concatMap (placeFires p o s ps l) (layoutsIn o)))
         done l =
             let e : o .first + o .count - k ≡ 0 = omega arith in
             going-end d₀ q₀ _ d q (rw (range-none (placeFires p o s ps l) (o .first + o .count - k) k e) at (v .going l))
 
     module _ (h : k < o .first + o .count) where
-      next : (l : ℕ → ℕ) → concatMap (placeFires p o s ps l) (upFrom (o .first + o .count - k) k) ≡
+      next : (l : ℕ → Spot) → concatMap (placeFires p o s ps l) (upFrom (o .first + o .count - k) k) ≡
           placeFires p o s ps l k ++ concatMap (placeFires p o s ps l) (upFrom (o .first + o .count - (k + 1)) (k + 1))
       next l = range-next (placeFires p o s ps l) (o .first + o .count) k h
 
