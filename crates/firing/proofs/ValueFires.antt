@@ -4,7 +4,7 @@ use native.Mathlib.Omega.{arith}
 use native.Mathlib.Numerals.{add-one}
 use mathlib.Core.Path.{_≡_, refl, sym, ap, _∙_}
 use mathlib.Core.List.{List, [], _∷_, _++_}
-use mathlib.Core.Bool.{Bool, true, false}
+use mathlib.Core.Bool.{Bool, false}
 use lib.ListN.{length, take, drop, getD, length-drop, drop-of-length-le}
 use lib.Seq.{drop-cons}
 use lib.Dec.{ltb}
@@ -13,7 +13,7 @@ use Rattle.text.specs.Bytes.{Text, Words, part, anyOf, concatMap}
 use Rattle.text.specs.Words.{tooLong}
 use Rattle.text.specs.Reading.{left, FoundWord, NoWord}
 use Rattle.text.proofs.Lists.{neither, any-drop}
-use Rattle.text.proofs.Passing.{Passing, passing-start, passing-word, passing-stop}
+use Rattle.text.proofs.Passing.{Passing, passing-start, passing-word}
 use Rattle.profile.specs.Profile.{Profile, layoutCount}
 use Rattle.values.specs.Values.{filled}
 use Rattle.values.specs.Filling.{Filled, isPercent}
@@ -23,7 +23,7 @@ use Rattle.values.proofs.Profiles.{expanded-by}
 use Rattle.firing.specs.declared.Cursors.{Cursors}
 use Rattle.rules.specs.Sections.{Spot}
 use Rattle.answers.specs.Firings.{fired, ruleFires}
-use Rattle.firing.specs.Writing.{FiredOne, Low, runBuf, runCur, ShortWords, FiredRule, FiredLine, BehindFirst}
+use Rattle.firing.specs.Writing.{FiredOne, Low, runBuf, runCur, ShortWords, FiredRule, BehindFirst}
 use Rattle.firing.specs.Line.{Fires, RightWords}
 use Rattle.firing.proofs.Going.{Going, going-start, going-more, going-end}
 
@@ -111,9 +111,6 @@ module _ (p : Profile) (s : Text) (from n : ℕ) (d₀ : Text) (q₀ : Cursors) 
 
     pub words-none : (r l : ℕ) → NoWord s i m r l → FiredRule p d₀ d q₀ q k cs (left s from)
     words-none r l w = fired-all (w .none)
-
-    pub words-end : (r l : ℕ) → NoWord s i m r l → FiredLine p cs (left s from) s from n d₀ d q₀ k (record { fired = true; at = r; line = l; cursors = q })
-    words-end r l w = record { told = refl; fires = words-none r l w; passed = passing-stop s from n i m (v .passing) r l w }
 
 -- behind the first word of a line
 

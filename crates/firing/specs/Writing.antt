@@ -9,11 +9,10 @@ use lib.Dec.{ltb}
 use Rattle.text.specs.Limits.{longestTotal}
 use Rattle.text.specs.Bytes.{Text, Words, anyOf}
 use Rattle.text.specs.Words.{tooLong}
-use Rattle.text.specs.Reading.{left, ahead, Passed}
+use Rattle.text.specs.Reading.{left, ahead}
 use Rattle.output.specs.Store.{stored, farthest, past}
 use Rattle.values.specs.Spread.{signed}
 use Rattle.firing.specs.declared.Cursors.{Cursors}
-use Rattle.firing.specs.declared.RuleRun.{RuleRun}
 use Rattle.profile.specs.Profile.{Profile}
 use Rattle.rules.specs.Sections.{Spot}
 use Rattle.answers.specs.Firings.{Firing, fired, ruleFires}
@@ -89,12 +88,6 @@ ShortWords ws = anyOf tooLong ws ≡ false
 pub record FiredRule (p : Profile) (d d′ : Text) (q q′ : Cursors) (k : ℕ) (cs : List ℕ) (ws : Words) : Type 0 where
   pub bytes : (l : Spot) → d′ ≡ runBuf d q (ruleFires p l k cs ws)
   pub places : (l : Spot) → q′ ≡ runCur q (ruleFires p l k cs ws)
-
--- The words ws of a line from `from` on, which lies in the physical line n, fired at the layout k for the components cs; the next line is where the line ends.
-pub record FiredLine (p : Profile) (cs : List ℕ) (ws : Words) (s : Text) (from n : ℕ) (d d′ : Text) (q : Cursors) (k : ℕ) (r : RuleRun) : Type 0 where
-  pub told : r .fired ≡ true
-  pub fires : FiredRule p d d′ q (r .cursors) k cs ws
-  pub passed : Passed s from n (r .at) (r .line)
 
 -- a place between the first word of a line from `from` on, which lies in the physical line n, and its second; or before its end, if it has none
 pub record BehindFirst (s : Text) (from n i m : ℕ) : Type 0 where
