@@ -7,7 +7,7 @@ use mathlib.Core.Bool.{Bool, true, false, cond, _&&_}
 use lib.ListN.{length, take, drop, getD}
 use lib.Dec.{eqb, ltb}
 use borrow.Author.Tests.{eq-eqb, ne-eqb, ltb-true}
-use Rattle.text.specs.Bytes.{Text, same}
+use Rattle.text.specs.Bytes.{Text, part}
 use Rattle.text.proofs.Lists.{no, and-both}
 use Rattle.text.proofs.Comparing.{drop-at, same-none}
 use Rattle.bundle.specs.declared.Piece.{Piece}
@@ -70,3 +70,7 @@ byte-part w i j l e = let z : j - i ≡ 1 = omega arith in rw (z, drop-at w i l)
 pub stands-nothing : (a : Text) (k : ℕ) → true ≡ standsAt a k []
 unfolding standsAt
 stands-nothing a k = sym (same-none [] [] refl refl)
+
+pub byte-of : (w : Text) (i : ℕ) → i < length w → part w i (i + 1) ≡ getD w i 0 ∷ []
+unfolding part
+byte-of w i l = byte-part w i (i + 1) l refl

@@ -1,8 +1,10 @@
 // A bundle of files: where the bytes of each stand, include paths, and a file found by its path.
 
+pub mod chains;
 pub mod files;
 pub mod paths;
 pub mod search;
+pub mod writing;
 
 // Where the bytes of a file stand in the bundle.
 pub struct Span {
@@ -24,4 +26,10 @@ pub enum Piece {
     Extra,
     System,
     Nothing,
+}
+
+// Whether an expanded path was written, and its length then.
+pub struct Put {
+    pub fits: bool,
+    pub length: usize,
 }

@@ -72,7 +72,7 @@ fn is_sign(word: &[u8], i: usize) -> bool
 }
 
 // The piece that begins at i.
-fn kind_at(word: &[u8], i: usize) -> Piece
+pub fn kind_at(word: &[u8], i: usize) -> Piece
     requires { ⌜ i < length (now word) ⌝ }
     ensures { λ r. ⌜ r ≡ kindAt (now (word .entry)) i ⌝ }
 {
@@ -83,7 +83,7 @@ fn kind_at(word: &[u8], i: usize) -> Piece
 }
 
 // The length of its text.
-fn piece_length(word: &[u8], i: usize, home: &[u8], extra: &[u8], system: &[u8]) -> usize
+pub fn piece_length(word: &[u8], i: usize, home: &[u8], extra: &[u8], system: &[u8]) -> usize
     requires { ⌜ i < length (now word) ⌝ }
     ensures { λ r. ⌜ r ≡ length (pieceAt (now (home .entry)) (now (extra .entry)) (now (system .entry)) (now (word .entry)) i) ⌝ }
 {
@@ -98,7 +98,7 @@ fn piece_length(word: &[u8], i: usize, home: &[u8], extra: &[u8], system: &[u8])
 }
 
 // The position behind it.
-fn after(word: &[u8], i: usize) -> usize
+pub fn after(word: &[u8], i: usize) -> usize
     requires { ⌜ i < length (now word) ⌝ }
     ensures { λ r. ⌜ r ≡ afterAt (now (word .entry)) i ⌝ }
 {
