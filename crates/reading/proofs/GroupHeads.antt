@@ -77,7 +77,7 @@ placed-longer s w b v =
       place = λ j h. let p = v .place j h in record { low = p .low; high = omega (arith, p .high, length-append s w); short = p .short };
     }
 
-none-open : (n : ℕ) (o : OpenSet) → SetOpen n o → SetOpen n (closedSet noHeading (o .set))
+pub none-open : (n : ℕ) (o : OpenSet) → SetOpen n o → SetOpen n (closedSet noHeading (o .set))
 none-open n o v =
     record {
       sized = v .sized;

@@ -42,7 +42,7 @@ array-read-fire-value c = words-few _ _ _ _ _ _ _ _ _ _ _ _ _ (c .before .before
 
 fire-value-requires : tie.Need-fire-value-requires Inv-loop μ-loop
 unfolding part
-fire-value-requires c κs = (fires-again _ _ _ _ _ _ _ _ _ _ (c .before .before .before .before .before .before .before .before .before .before .before .before .before .before .pre .2) (c .before .before .before .before .before .before .before .before .loop .inv .1) (c .before .before .before .before .before .before .before .before .loop .inv .2) (c .before .before .before .before .before .before .before .before .loop .inv .0 .going 0 .low), word-fits _ _ _ _ _ _ _ _ _ _ _ _ _ (c .before .before .before .before .before .before .before .before .loop .inv .0) _ _ _ _ (found _ _ _ _ _ _ _ _ (c .before .before .before .before .start .given .1) (c .before .before .before .before .before .before .word-at .ensures)))
+fire-value-requires c κs = (fires-again _ _ _ _ _ _ _ _ _ _ (c .before .before .before .before .before .before .before .before .before .before .before .before .before .before .pre .2) (c .before .before .before .before .before .before .before .before .loop .inv .1) (c .before .before .before .before .before .before .before .before .loop .inv .2) (c .before .before .before .before .before .before .before .before .loop .inv .0 .going (record { file = 0; line = 0 }) .low), word-fits _ _ _ _ _ _ _ _ _ _ _ _ _ (c .before .before .before .before .before .before .before .before .loop .inv .0) _ _ _ _ (found _ _ _ _ _ _ _ _ (c .before .before .before .before .start .given .1) (c .before .before .before .before .before .before .word-at .ensures)))
 
 add-j : tie.Need-add-j Inv-loop μ-loop
 add-j c = omega (arith, c .before .before .before .before .before .before .before .before .before .before .before .before .loop-test .taken, c .before .before .before .before .before .before .before .before .before .before .before .before .before .before .before .before .before .before .before .pre .1 .few)

@@ -34,6 +34,12 @@ judge-heading-requires c κs =
     let start = c .before .before .before .before .before .before .before in
     (c .before .before .split-line .ensures, tail-dollar _ _ _ (tail-whole (start .args .s .now) (start .args .from) (start .pre .0 .high)) (start .pre .1))
 
+add-path : tie.Need-add-path
+add-path c = omega (arith, @judge-heading .ensures .path .low, @judge-heading .ensures .path .high, tail-length (@start .args .s .now) (@start .args .from))
+
+add-path-2 : tie.Need-add-path-2
+add-path-2 c = omega (arith, @judge-heading .ensures .path .high, tail-length (@start .args .s .now) (@start .args .from))
+
 add-t12 : tie.Need-add-t12
 add-t12 c = search needs
 
@@ -42,10 +48,7 @@ add-t18 c = search needs
 
 returns : tie.Need-returns
 returns c =
-    let start = c .before .before .before .before .before .before .before .before .before .before .before in
-    let the-split-line = c .before .before .before .before .before .before .split-line in
-    let the-judge-heading = c .before .before .before .judge-heading in
-    set-told _ _ _ _ _ _ (tail-whole (start .args .s .now) (start .args .from) (start .pre .0 .high)) (start .pre .0 .high) (start .pre .0 .few) (the-split-line .ensures) _ (the-judge-heading .ensures)
+    set-told _ _ _ _ _ _ (tail-whole (@start .args .s .now) (@start .args .from) (@start .pre .0 .high)) (@start .pre .0 .high) (@start .pre .0 .few) (@split-line .ensures) _ (@judge-heading .ensures)
 
 pub set-line-spec : {M : Type 1} → statement M
 set-line-spec =
@@ -59,6 +62,8 @@ set-line-spec =
     split-line-requires
     slice-aggregate-judge-heading
     judge-heading-requires
+    add-path
+    add-path-2
     add-t12
     add-t18
     returns)
