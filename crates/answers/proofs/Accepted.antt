@@ -11,6 +11,7 @@ use Rattle.profile.specs.Profile.{Texts, profileOf, optionsOf, layoutCount}
 use Rattle.profile.specs.Refusals.{profileRefusals}
 use Rattle.profile.proofs.Counts as counts
 use Rattle.text.proofs.Lists.{nil-left}
+use Rattle.rules.specs.Written.{Source}
 use Rattle.answers.specs.Firings.{Firing, fileFirings}
 use Rattle.answers.specs.Components.{valuesOf, base, additions}
 use Rattle.answers.specs.Answer.{textsFrom, tenTexts, total, refusals, accepted, answer, Answered}
@@ -29,7 +30,7 @@ in-order c (suc n) (suc k) fs h =
     let e : c + suc k ≡ suc c + k = omega arith in
     rw (b, a, e) (in-order (suc c) n k fs l)
 
-module _ (room : ℕ) (f : Text) (t : Texts) (ts : List Text) (h : answer room f t ≡ accepted ts) where
+module _ (room : ℕ) (f : Source) (t : Texts) (ts : List Text) (h : answer room f t ≡ accepted ts) where
   pub no-refusals : refusals room f t ≡ []
   unfolding answer
   no-refusals = accepted-first (refusals room f t) (tenTexts f t) ts h .0

@@ -1,21 +1,21 @@
--- Firings of appended and of shifted sections, beside groups that are not named; and that every fired value has a byte.
-use Prim.Native.Nat.{ℕ, _+_}
+-- Firings of appended and of moved sections, beside groups that are not named; and that every fired value has a byte.
+use Prim.Native.Nat.{ℕ}
 use mathlib.Core.Path.{_≡_, refl, sym, ap, fun-ext, _∙_}
 use mathlib.Core.List.{List, [], _∷_, _++_, map, append-assoc}
 use mathlib.Core.Bool.{Bool, true, false, not, _||_, cond}
 use lib.ListN.{length, take}
 use lib.Dec.{eqb}
 use Rattle.text.specs.Bytes.{Text, Words, same, empty, rest, allOf, anyOf, concatMap}
-use Rattle.text.specs.Lines.{lines}
 use Rattle.text.proofs.Lists.{no, and-both, map-append, map-concat, all-append, all-concat, all-cond}
 use Rattle.profile.specs.Profile.{Profile, layoutCount}
 use Rattle.rules.specs.declared.Column.{Column}
 use Rattle.rules.specs.declared.Column.the-variants as column
 use Rattle.rules.specs.Words.{hasDollar}
 use Rattle.rules.specs.Headings.{Heading}
-use Rattle.rules.specs.Sections.{Rule, Head, bad, defines, applies, Section, sections}
+use Rattle.rules.specs.Sections.{Spot, Rule, Head, bad, defines, applies, ends, Section, sections}
+use Rattle.rules.specs.Written.{Source, writtenOut}
 use Rattle.rules.specs.Faults.{Groups, defined, withGroup, groupsAfter, leftWords, rightWords}
-use Rattle.rules.proofs.Shifted.{shiftRule, shiftSection}
+use Rattle.rules.proofs.Shifted.{Move, movedRule, movedSection}
 use Rattle.rules.proofs.Fresh.{freshWord, freshHead, fresh, with-beside}
 use Rattle.values.specs.Spread.{expanded}
 use Rattle.answers.specs.Matching.{members, wordMatches, valueMatches, columnMatches, ruleMatches, isOptions}
@@ -31,71 +31,73 @@ unfolding firings groupsAfter
 firings-append gs p [] b = refl
 firings-append gs p (s ∷ a) b = rw (firings-append (withGroup (s .head) gs) p a b, append-assoc)
 
--- shifted
+-- moved to other places
 
-unfoldable pub shiftFiring : ℕ → Firing → Firing
-shiftFiring k f = record { line = f .line + k; layout = f .layout; component = f .component; value = f .value }
+unfoldable pub movedFiring : Move → Firing → Firing
+movedFiring m f = record { spot = m (f .spot); layout = f .layout; component = f .component; value = f .value }
 
-fired-shift : (j n k c : ℕ) (v : Text) → fired (n + j) k c v ≡ map (shiftFiring j) (fired n k c v)
-unfolding fired shiftFiring empty
-fired-shift j n k c [] = refl
-fired-shift j n k c (b ∷ v) = refl
+fired-moved : (m : Move) (n : Spot) (k c : ℕ) (v : Text) → fired (m n) k c v ≡ map (movedFiring m) (fired n k c v)
+unfolding fired movedFiring empty
+fired-moved m n k c [] = refl
+fired-moved m n k c (b ∷ v) = refl
 
-rule-fires-shift : (p : Profile) (j n k : ℕ) (cs : List ℕ) (ws : Words) → ruleFires p (n + j) k cs ws ≡ map (shiftFiring j) (ruleFires p n k cs ws)
+rule-fires-moved : (p : Profile) (m : Move) (n : Spot) (k : ℕ) (cs : List ℕ) (ws : Words) → ruleFires p (m n) k cs ws ≡ map (movedFiring m) (ruleFires p n k cs ws)
 unfolding ruleFires
-rule-fires-shift p j n k [] ws = refl
-rule-fires-shift p j n k (c ∷ cs) [] = refl
-rule-fires-shift p j n k (c ∷ cs) (w ∷ ws) = rw (fired-shift, rule-fires-shift p j n k cs ws, map-append)
+rule-fires-moved p m n k [] ws = refl
+rule-fires-moved p m n k (c ∷ cs) [] = refl
+rule-fires-moved p m n k (c ∷ cs) (w ∷ ws) =
+    rw (fired-moved m n k c (expanded p k w), rule-fires-moved p m n k cs ws, map-append)
 
-at-shift : (p : Profile) (h : Heading) (j : ℕ) (r : Rule) (k : ℕ) → firesAt p h (shiftRule j r) k ≡ map (shiftFiring j) (firesAt p h r k)
-unfolding firesAt shiftRule
-at-shift p h j r k = rule-fires-shift p j (r .number) k (h .components) (rightWords h (r .text))
+at-moved : (p : Profile) (h : Heading) (m : Move) (r : Rule) (k : ℕ) → firesAt p h (movedRule m r) k ≡ map (movedFiring m) (firesAt p h r k)
+unfolding firesAt movedRule
+at-moved p h m r k = rule-fires-moved p m (r .spot) k (h .components) (rightWords h (r .text))
 
-arms-shift : (j : ℕ) (t : Bool) (a b : List Firing) → cond t (map (shiftFiring j) a) (map (shiftFiring j) b) ≡ map (shiftFiring j) (cond t a b)
-arms-shift j true a b = refl
-arms-shift j false a b = refl
+arms-moved : (m : Move) (t : Bool) (a b : List Firing) → cond t (map (movedFiring m) a) (map (movedFiring m) b) ≡ map (movedFiring m) (cond t a b)
+arms-moved m true a b = refl
+arms-moved m false a b = refl
 
-set-fires-shift : (look : Text → Words) (p : Profile) (h : Heading) (j k : ℕ) (rs : List Rule) →
-    setFires look p h k (map (shiftRule j) rs) ≡ map (shiftFiring j) (setFires look p h k rs)
-unfolding setFires shiftRule
-set-fires-shift look p h j k [] = refl
-set-fires-shift look p h j k (r ∷ rs) =
-    rw (at-shift p h j r k, set-fires-shift look p h j k rs)
-    (arms-shift j (ruleMatches look p k (h .columns) (r .text)) (firesAt p h r k) (setFires look p h k rs))
+set-fires-moved : (look : Text → Words) (p : Profile) (h : Heading) (m : Move) (k : ℕ) (rs : List Rule) →
+    setFires look p h k (map (movedRule m) rs) ≡ map (movedFiring m) (setFires look p h k rs)
+unfolding setFires movedRule
+set-fires-moved look p h m k [] = refl
+set-fires-moved look p h m k (r ∷ rs) =
+    rw (at-moved p h m r k, set-fires-moved look p h m k rs)
+    (arms-moved m (ruleMatches look p k (h .columns) (r .text)) (firesAt p h r k) (setFires look p h k rs))
 
-by-rule-shift : (look : Text → Words) (p : Profile) (h : Heading) (ks : List ℕ) (j : ℕ) (rs : List Rule) →
-    ruleByRule look p h ks (map (shiftRule j) rs) ≡ map (shiftFiring j) (ruleByRule look p h ks rs)
-unfolding ruleByRule shiftRule
-by-rule-shift look p h ks j [] = refl
-by-rule-shift look p h ks j (r ∷ rs) =
+by-rule-moved : (look : Text → Words) (p : Profile) (h : Heading) (ks : List ℕ) (m : Move) (rs : List Rule) →
+    ruleByRule look p h ks (map (movedRule m) rs) ≡ map (movedFiring m) (ruleByRule look p h ks rs)
+unfolding ruleByRule movedRule
+by-rule-moved look p h ks m [] = refl
+by-rule-moved look p h ks m (r ∷ rs) =
     rw (
-      map-concat (shiftFiring j) (λ k. cond (ruleMatches look p k (h .columns) (r .text)) (firesAt p h r k) [])
-          (λ k. cond (ruleMatches look p k (h .columns) (r .text)) (firesAt p h (shiftRule j r) k) []) ks
-          (λ k. rw (at-shift p h j r k) (arms-shift j (ruleMatches look p k (h .columns) (r .text)) (firesAt p h r k) [])),
-      by-rule-shift look p h ks j rs,
+      map-concat (movedFiring m) (λ k. cond (ruleMatches look p k (h .columns) (r .text)) (firesAt p h r k) [])
+          (λ k. cond (ruleMatches look p k (h .columns) (r .text)) (firesAt p h (movedRule m r) k) []) ks
+          (λ k. rw (at-moved p h m r k) (arms-moved m (ruleMatches look p k (h .columns) (r .text)) (firesAt p h r k) [])),
+      by-rule-moved look p h ks m rs,
     )
-    (sym (map-append (shiftFiring j) (concatMap (λ k. cond (ruleMatches look p k (h .columns) (r .text)) (firesAt p h r k) []) ks) (ruleByRule look p h ks rs)))
+    (sym (map-append (movedFiring m) (concatMap (λ k. cond (ruleMatches look p k (h .columns) (r .text)) (firesAt p h r k) []) ks) (ruleByRule look p h ks rs)))
 
-head-fires-shift : (gs : Groups) (p : Profile) (k : ℕ) (h : Head) (rs : List Rule) →
-    headFires gs p h (map (shiftRule k) rs) ≡ map (shiftFiring k) (headFires gs p h rs)
+head-fires-moved : (gs : Groups) (p : Profile) (m : Move) (h : Head) (rs : List Rule) →
+    headFires gs p h (map (movedRule m) rs) ≡ map (movedFiring m) (headFires gs p h rs)
 unfolding headFires
-head-fires-shift gs p k (bad j) rs = refl
-head-fires-shift gs p k (defines g ms) rs = refl
-head-fires-shift gs p k (applies h) rs =
+head-fires-moved gs p m (bad j) rs = refl
+head-fires-moved gs p m (defines g ms) rs = refl
+head-fires-moved gs p m ends rs = refl
+head-fires-moved gs p m (applies h) rs =
     rw (
-      by-rule-shift (members gs) p h (layoutsOf (layoutCount p) h) k rs,
-      map-concat (shiftFiring k) (λ i. setFires (members gs) p h i rs) (λ i. setFires (members gs) p h i (map (shiftRule k) rs)) (layoutsOf (layoutCount p) h)
-          (λ i. set-fires-shift (members gs) p h k i rs),
+      by-rule-moved (members gs) p h (layoutsOf (layoutCount p) h) m rs,
+      map-concat (movedFiring m) (λ i. setFires (members gs) p h i rs) (λ i. setFires (members gs) p h i (map (movedRule m) rs)) (layoutsOf (layoutCount p) h)
+          (λ i. set-fires-moved (members gs) p h m i rs),
     )
-    (arms-shift k (anyOf isOptions (h .columns)) (ruleByRule (members gs) p h (layoutsOf (layoutCount p) h) rs)
+    (arms-moved m (anyOf isOptions (h .columns)) (ruleByRule (members gs) p h (layoutsOf (layoutCount p) h) rs)
     (concatMap (λ i. setFires (members gs) p h i rs) (layoutsOf (layoutCount p) h)))
 
-pub firings-shift : (gs : Groups) (p : Profile) (k : ℕ) (ss : List Section) →
-    firings gs p (map (shiftSection k) ss) ≡ map (shiftFiring k) (firings gs p ss)
-unfolding firings shiftSection
-firings-shift gs p k [] = refl
-firings-shift gs p k (s ∷ ss) =
-    rw (head-fires-shift gs p k (s .head) (s .rules), firings-shift (withGroup (s .head) gs) p k ss, map-append)
+pub firings-moved : (gs : Groups) (p : Profile) (m : Move) (ss : List Section) →
+    firings gs p (map (movedSection m) ss) ≡ map (movedFiring m) (firings gs p ss)
+unfolding firings movedSection
+firings-moved gs p m [] = refl
+firings-moved gs p m (s ∷ ss) =
+    rw (head-fires-moved gs p m (s .head) (s .rules), firings-moved (withGroup (s .head) gs) p m ss, map-append)
 
 -- beside groups that are not named
 
@@ -165,6 +167,7 @@ head-fires-beside : (gs g : Groups) (p : Profile) (h : Head) (rs : List Rule) �
 unfolding headFires freshHead
 head-fires-beside gs g p (bad k) rs f = refl
 head-fires-beside gs g p (defines n ms) rs f = refl
+head-fires-beside gs g p ends rs f = refl
 head-fires-beside gs g p (applies h) rs f =
     rw (by-rule-beside gs g p h (layoutsOf (layoutCount p) h) rs f)
     (ap (λ (q : ℕ → List Firing). cond (anyOf isOptions (h .columns)) (ruleByRule (members gs) p h (layoutsOf (layoutCount p) h) rs)
@@ -183,12 +186,12 @@ firings-beside gs g p (s ∷ ss) f =
 abbrev full : Firing → Bool
 full f = not (empty (f .value))
 
-fired-full : (n k c : ℕ) (v : Text) → allOf full (fired n k c v) ≡ true
+fired-full : (n : Spot) (k c : ℕ) (v : Text) → allOf full (fired n k c v) ≡ true
 unfolding fired allOf empty
 fired-full n k c [] = refl
 fired-full n k c (b ∷ v) = refl
 
-rule-full : (p : Profile) (n k : ℕ) (cs : List ℕ) (ws : Words) → allOf full (ruleFires p n k cs ws) ≡ true
+rule-full : (p : Profile) (n : Spot) (k : ℕ) (cs : List ℕ) (ws : Words) → allOf full (ruleFires p n k cs ws) ≡ true
 unfolding ruleFires allOf
 rule-full p n k [] ws = refl
 rule-full p n k (c ∷ cs) [] = refl
@@ -197,7 +200,7 @@ rule-full p n k (c ∷ cs) (w ∷ ws) =
 
 at-full : (p : Profile) (h : Heading) (r : Rule) (k : ℕ) → allOf full (firesAt p h r k) ≡ true
 unfolding firesAt
-at-full p h r k = rule-full p (r .number) k (h .components) (rightWords h (r .text))
+at-full p h r k = rule-full p (r .spot) k (h .components) (rightWords h (r .text))
 
 set-full : (look : Text → Words) (p : Profile) (h : Heading) (k : ℕ) (rs : List Rule) → allOf full (setFires look p h k rs) ≡ true
 unfolding setFires allOf
@@ -218,6 +221,7 @@ head-full : (gs : Groups) (p : Profile) (h : Head) (rs : List Rule) → allOf fu
 unfolding headFires allOf
 head-full gs p (bad k) rs = refl
 head-full gs p (defines g ms) rs = refl
+head-full gs p ends rs = refl
 head-full gs p (applies h) rs =
     all-cond full (anyOf isOptions (h .columns)) _ _ (by-rule-full (members gs) p h (layoutsOf (layoutCount p) h) rs)
     (all-concat full _ (layoutsOf (layoutCount p) h) (λ k. set-full (members gs) p h k rs))
@@ -237,11 +241,11 @@ values-full c (f ∷ fs) h = go (eqb (f .component) c) (and-both (full f) (allOf
     go true e ih = rw (e, ih)
     go false e ih = ih
 
-pub file-values : (f : Text) (p : Profile) (c : ℕ) → allOf nonEmpty (valuesOf c (fileFirings f p)) ≡ true
+pub file-values : (x : Source) (p : Profile) (c : ℕ) → allOf nonEmpty (valuesOf c (fileFirings x p)) ≡ true
 unfolding fileFirings
-file-values f p c = values-full c (firings [] p (sections (lines f) .1)) (firings-full [] p (sections (lines f) .1))
+file-values x p c = values-full c (firings [] p (sections (writtenOut x) .1)) (firings-full [] p (sections (writtenOut x) .1))
 
-pub values-shift : (c k : ℕ) (fs : List Firing) → valuesOf c (map (shiftFiring k) fs) ≡ valuesOf c fs
-unfolding valuesOf shiftFiring
-values-shift c k [] = refl
-values-shift c k (f ∷ fs) = rw (values-shift c k fs)
+pub values-moved : (c : ℕ) (m : Move) (fs : List Firing) → valuesOf c (map (movedFiring m) fs) ≡ valuesOf c fs
+unfolding valuesOf movedFiring
+values-moved c m [] = refl
+values-moved c m (f ∷ fs) = rw (values-moved c m fs)

@@ -6,5 +6,4 @@ pub mod Answers
 pub mod Stretch
 pub mod Accepted
 pub mod Places
-pub mod LineEnds
 pub mod AllLayouts

@@ -1,28 +1,31 @@
 -- The number and the place of every answer are small: a place is a text's number, a line of a file that is not too long, or 0.
-use Prim.Native.Nat.{ℕ, suc, _+_, _≤_}
+use Prim.Native.Nat.{ℕ, zero, suc, _+_, _*_, _≤_, _<_}
 use native.Mathlib.Omega.{arith}
-use mathlib.Core.Path.{_≡_, refl, ap}
+use mathlib.Core.Path.{_≡_, refl, sym, ap, _∙_}
 use mathlib.Core.List.{List, [], _∷_, _++_}
-use mathlib.Core.Bool.{Bool, true, false, _||_, _&&_}
+use mathlib.Core.Bool.{Bool, true, false, not, _||_, _&&_, cond}
 use lib.ListN.{length}
-use lib.Dec.{leb, ltb}
-use borrow.Author.Tests.{le-leb, leb-true, ltb-false}
+use lib.Dec.{eqb, leb, ltb}
+use borrow.Author.Tests.{le-leb, leb-true, ltb-false, eqb-true}
 use Rattle.text.specs.declared.Refusal.{Refusal}
 use Rattle.text.specs.declared.Place.{Place}
 use Rattle.text.specs.declared.Place.the-variants.{Start}
 use Rattle.text.specs.Limits.{longestFile, mostGroups}
-use Rattle.text.specs.Bytes.{Text, first, rest, allOf, concatMap}
+use Rattle.text.specs.Bytes.{Text, same, first, rest, allOf, concatMap}
 use Rattle.text.specs.Marks.{Mark, char, gap, join, bang, end, step, marks}
 use Rattle.text.specs.Lines.{Line, feeds, inside, linesOf, lines}
 use Rattle.text.specs.Refusals.{refusedIf, refusedAs}
-use Rattle.text.proofs.Lists.{and-both, both-and, all-append}
+use Rattle.text.proofs.Lists.{and-both, both-and, all-append, all-cond}
+use Rattle.bundle.specs.Bundle.{File, filesOf, whole, numberFrom, numberOf, bytesFrom, bytesOf, longFrom, firstLong}
+use Rattle.bundle.specs.Paths.{badPath, pathOf}
 use Rattle.profile.specs.Profile.{Texts}
 use Rattle.profile.specs.Refusals.{textRefusals, countRefusals, profileRefusals}
 use Rattle.rules.specs.Headings.{Heading}
-use Rattle.rules.specs.Entries.{Entry, ignored, wrong, group, set, rule, entryOf}
-use Rattle.rules.specs.Sections.{Rule, Head, bad, defines, applies, Section, Sections, addEntry, sections}
-use Rattle.rules.specs.Faults.{Groups, defined, withGroup, ruleFault, orphans, headFaults, faults, lineFaults, fileRefusals}
-use Rattle.answers.specs.Answer.{tenTexts, total, noRoom, refusals, Answer, refused, accepted, firstOf, answer, numberOf, placeOf, Answered}
+use Rattle.rules.specs.Entries.{Entry, ignored, wrong, group, set, rule, include, entryOf}
+use Rattle.rules.specs.Sections.{Spot, placeOf as spotPlace, Placed, Rule, Head, bad, defines, applies, ends, Section, Sections, addEntry, sections}
+use Rattle.rules.specs.Written.{Source, Include, placed, lineOut, outLines, between, named, included, deepest, writtenOut}
+use Rattle.rules.specs.Faults.{Groups, defined, withGroup, ruleFault, orphans, headFaults, faults, lineFaults, bundleRefusals, fileRefusals}
+use Rattle.answers.specs.Answer.{tenTexts, total, noRoom, refusals, Answer, refused, accepted, firstOf, answer, numberOf as numberIn, placeOf, Answered}
 use Rattle.answers.proofs.Answers.{answered}
 
 -- a line's number is at most m, where the file's bytes and the first line's number are together
@@ -50,128 +53,238 @@ lines-low m n false (y ∷ r) h =
     both-and (leb n m) _ (le-leb n m (omega arith)) (lines-low m (n + feeds y) (inside y) r (omega (arith, feeds-few y)))
 lines-low m n true (y ∷ r) h = lines-low m (n + feeds y) (inside y) r (omega (arith, feeds-few y))
 
--- so are the numbers of rules and sections
+-- a file's number is at most the count of files, and none is too long
 
-abbrev lowRules : ℕ → List Rule → Bool
-lowRules m rs = allOf (λ r. leb (r .number) m) rs
+number-few : (k : ℕ) (fs : List File) (b : Text) → 1 ≤ k → numberFrom k fs b < k + length fs
+unfolding numberFrom
+number-few k [] b h = omega arith
+number-few k (f ∷ fs) b h = go (same (f .name) b) (number-few (k + 1) fs b (omega arith))
+  where
+    go : (t : Bool) → numberFrom (k + 1) fs b < k + 1 + length fs → cond t k (numberFrom (k + 1) fs b) < k + suc (length fs)
+    go true q = omega arith
+    go false q = omega arith
 
-abbrev lowSections : ℕ → List Section → Bool
-lowSections m ss = allOf (λ s. leb (s .number) m && lowRules m (s .rules)) ss
+bytes-short : (k : ℕ) (fs : List File) (j : ℕ) → 1 ≤ k → longFrom k fs ≡ 0 → length (bytesFrom k fs j) ≤ longestFile
+unfolding longFrom bytesFrom
+bytes-short k [] j h e = omega arith
+bytes-short k (f ∷ fs) j h e = go (ltb longestFile (length (f .bytes))) refl e (bytes-short (k + 1) fs j (omega arith))
+  where
+    by : (t : Bool) → length (f .bytes) ≤ longestFile → length (bytesFrom (k + 1) fs j) ≤ longestFile → length (cond t (f .bytes) (bytesFrom (k + 1) fs j)) ≤ longestFile
+    by true p q = p
+    by false p q = q
+    go : (t : Bool) → ltb longestFile (length (f .bytes)) ≡ t → cond t k (longFrom (k + 1) fs) ≡ 0 →
+        (longFrom (k + 1) fs ≡ 0 → length (bytesFrom (k + 1) fs j) ≤ longestFile) → length (cond (eqb k j) (f .bytes) (bytesFrom (k + 1) fs j)) ≤ longestFile
+    go true p q l = absurd (omega arith)
+    go false p q l = by (eqb k j) (ltb-false longestFile (length (f .bytes)) p) (l q)
 
-add-low : (m n : ℕ) (e : Entry) (s : Sections) → leb n m ≡ true → lowRules m (s .0) ≡ true → lowSections m (s .1) ≡ true →
-    (lowRules m (addEntry n e s .0) ≡ true) × (lowSections m (addEntry n e s .1) ≡ true)
+-- the last line of the last file
+
+abbrev pub most : ℕ
+most = 65535 * 4294967296 + suc longestFile
+
+abbrev lowSpot : Spot → Bool
+lowSpot n = leb (spotPlace n) most
+
+abbrev lowLine : Placed → Bool
+lowLine l = lowSpot (l .spot)
+
+spot-low : (n : Spot) → n .file ≤ 65535 → n .line ≤ suc longestFile → lowSpot n ≡ true
+unfolding spotPlace
+spot-low n h l = le-leb (n .file * 4294967296 + n .line) most (omega arith)
+
+placed-low : (n : Spot) (e : Entry) → lowSpot n ≡ true → allOf lowLine (placed n e) ≡ true
+unfolding placed allOf
+placed-low n e h = rw h
+
+between-low : (n : Spot) (w : Text) (ls : List Placed) → lowSpot n ≡ true → allOf lowLine ls ≡ true → allOf lowLine (between n w ls) ≡ true
+unfolding between
+between-low n w ls h k =
+    all-append lowLine (placed n (include w)) _ (placed-low n (include w) h) (all-append lowLine ls _ k (placed-low n (include w) h))
+
+-- what an include line at a low place becomes is low
+abbrev LowInclude : Include → Type 0
+LowInclude inc = (n : Spot) (w : Text) → lowSpot n ≡ true → allOf lowLine (inc n w) ≡ true
+
+out-low : (inc : Include) → LowInclude inc → (n : Spot) (e : Entry) → lowSpot n ≡ true → allOf lowLine (lineOut inc n e) ≡ true
+unfolding lineOut
+out-low inc q n ignored h = placed-low n ignored h
+out-low inc q n (wrong k) h = placed-low n (wrong k) h
+out-low inc q n (group g ms) h = placed-low n (group g ms) h
+out-low inc q n (set g) h = placed-low n (set g) h
+out-low inc q n (rule ws) h = placed-low n (rule ws) h
+out-low inc q n (include w) h = q n w h
+
+text-low : (inc : Include) → LowInclude inc → (k : ℕ) → k ≤ 65535 → (ls : List Line) → lowLines (suc longestFile) ls ≡ true → allOf lowLine (outLines inc k ls) ≡ true
+unfolding outLines allOf
+text-low inc q k h [] l = refl
+text-low inc q k h (n ∷ ls) l =
+    let w = and-both (leb (n .number) (suc longestFile)) (lowLines (suc longestFile) ls) l in
+    all-append lowLine (lineOut inc (record { file = k; line = n .number }) (entryOf n)) _
+    (out-low inc q _ (entryOf n) (spot-low (record { file = k; line = n .number }) h (leb-true (n .number) (suc longestFile) (w .0))))
+    (text-low inc q k h ls (w .1))
+
+module _ (x : Source) (few : length (filesOf (x .bundle)) ≤ 65535) (none : firstLong (filesOf (x .bundle)) ≡ 0) where
+  abbrev bytesIn : ℕ → Text
+  bytesIn k = bytesOf (filesOf (x .bundle)) k
+
+  lines-few : (k : ℕ) → lowLines (suc longestFile) (lines (bytesIn k)) ≡ true
+  unfolding lines bytesOf firstLong
+  lines-few k =
+      let l : length (bytesFrom 1 (filesOf (x .bundle)) k) ≤ longestFile = bytes-short 1 (filesOf (x .bundle)) k (omega arith) none in
+      lines-low (suc longestFile) 1 false (marks Start (bytesIn k)) (omega (arith, marks-length Start (bytesIn k)))
+
+  named-few : (w : Text) → named x w ≤ 65535
+  unfolding named numberOf
+  named-few w =
+      let l = number-few 1 (filesOf (x .bundle)) (pathOf (x .home) (x .extra) (x .system) w) (omega arith) in omega arith
+
+  include-low : (d : ℕ) → LowInclude (included d x)
+  unfolding included
+  include-low zero n w h =
+      all-cond lowLine (badPath w) _ _ (placed-low n (wrong 15) h)
+      (all-cond lowLine (eqb (named x w) 0) _ _ (placed-low n (wrong 13) h) (placed-low n (wrong 14) h))
+  include-low (suc d) n w h =
+      all-cond lowLine (badPath w) _ _ (placed-low n (wrong 15) h)
+      (all-cond lowLine (eqb (named x w) 0) _ _ (placed-low n (wrong 13) h)
+      (between-low n w _ h (text-low (included d x) (include-low d) (named x w) (named-few w) (lines (bytesIn (named x w))) (lines-few (named x w)))))
+
+  written-low : allOf lowLine (writtenOut x) ≡ true
+  unfolding writtenOut
+  written-low = text-low (included deepest x) (include-low deepest) 1 (omega arith) (lines (bytesIn 1)) (lines-few 1)
+
+-- so are the places of rules and sections
+
+abbrev lowRules : List Rule → Bool
+lowRules rs = allOf (λ r. lowSpot (r .spot)) rs
+
+abbrev lowSections : List Section → Bool
+lowSections ss = allOf (λ s. lowSpot (s .spot) && lowRules (s .rules)) ss
+
+add-low : (n : Spot) (e : Entry) (s : Sections) → lowSpot n ≡ true → lowRules (s .0) ≡ true → lowSections (s .1) ≡ true →
+    (lowRules (addEntry n e s .0) ≡ true) × (lowSections (addEntry n e s .1) ≡ true)
 unfolding addEntry allOf
-add-low m n ignored s h k l = (k, l)
-add-low m n (wrong j) s h k l = (refl, both-and _ _ (both-and _ _ h k) l)
-add-low m n (group g ms) s h k l = (refl, both-and _ _ (both-and _ _ h k) l)
-add-low m n (set g) s h k l = (refl, both-and _ _ (both-and _ _ h k) l)
-add-low m n (rule ws) s h k l = (both-and _ _ h k, l)
+add-low n ignored s h k l = (k, l)
+add-low n (wrong j) s h k l = (refl, both-and _ _ (both-and _ _ h k) l)
+add-low n (group g ms) s h k l = (refl, both-and _ _ (both-and _ _ h k) l)
+add-low n (set g) s h k l = (refl, both-and _ _ (both-and _ _ h k) l)
+add-low n (rule ws) s h k l = (both-and _ _ h k, l)
+add-low n (include w) s h k l = (refl, both-and _ _ (both-and _ _ h k) l)
 
-sections-low : (m : ℕ) (ls : List Line) → lowLines m ls ≡ true → (lowRules m (sections ls .0) ≡ true) × (lowSections m (sections ls .1) ≡ true)
+sections-low : (ls : List Placed) → allOf lowLine ls ≡ true → (lowRules (sections ls .0) ≡ true) × (lowSections (sections ls .1) ≡ true)
 unfolding sections allOf
-sections-low m [] h = (refl, refl)
-sections-low m (l ∷ ls) h =
-    let w = and-both (leb (l .number) m) (lowLines m ls) h in
-    let q = sections-low m ls (w .1) in
-    add-low m (l .number) (entryOf l) (sections ls) (w .0) (q .0) (q .1)
+sections-low [] h = (refl, refl)
+sections-low (l ∷ ls) h =
+    let w = and-both (lowLine l) (allOf lowLine ls) h in
+    let q = sections-low ls (w .1) in
+    add-low (l .spot) (l .entry) (sections ls) (w .0) (q .0) (q .1)
 
--- and the places of the refusals
+-- and those of the refusals
 
-abbrev low : ℕ → Refusal → Bool
-low m r = leb (r .place) m
+abbrev low : Refusal → Bool
+low r = leb (r .place) most
 
-if-low : (m : ℕ) (t : Bool) (n p : ℕ) → leb p m ≡ true → allOf (low m) (refusedIf t n p) ≡ true
+if-low : (t : Bool) (n p : ℕ) → leb p most ≡ true → allOf low (refusedIf t n p) ≡ true
 unfolding refusedIf allOf
-if-low m true n p h = rw h
-if-low m false n p h = refl
+if-low true n p h = rw h
+if-low false n p h = refl
 
-orphans-low : (m : ℕ) (rs : List Rule) → lowRules m rs ≡ true → allOf (low m) (orphans rs) ≡ true
+orphans-low : (rs : List Rule) → lowRules rs ≡ true → allOf low (orphans rs) ≡ true
 unfolding orphans allOf
-orphans-low m [] h = refl
-orphans-low m (r ∷ rs) h = let w = and-both (leb (r .number) m) (lowRules m rs) h in both-and _ _ (w .0) (orphans-low m rs (w .1))
+orphans-low [] h = refl
+orphans-low (r ∷ rs) h = let w = and-both (lowSpot (r .spot)) (lowRules rs) h in both-and _ _ (w .0) (orphans-low rs (w .1))
 
-rules-low : (m : ℕ) (h : Heading) (rs : List Rule) → lowRules m rs ≡ true →
-    allOf (low m) (concatMap (λ r. refusedAs (ruleFault h (r .text)) (r .number)) rs) ≡ true
+rules-low : (h : Heading) (rs : List Rule) → lowRules rs ≡ true →
+    allOf low (concatMap (λ r. refusedAs (ruleFault h (r .text)) (spotPlace (r .spot))) rs) ≡ true
 unfolding allOf concatMap refusedAs
-rules-low m h [] e = refl
-rules-low m h (r ∷ rs) e =
-    let w = and-both (leb (r .number) m) (lowRules m rs) e in
-    all-append (low m) (refusedAs (ruleFault h (r .text)) (r .number)) _ (if-low m _ (ruleFault h (r .text)) (r .number) (w .0)) (rules-low m h rs (w .1))
+rules-low h [] e = refl
+rules-low h (r ∷ rs) e =
+    let w = and-both (lowSpot (r .spot)) (lowRules rs) e in
+    all-append low (refusedAs (ruleFault h (r .text)) (spotPlace (r .spot))) _ (if-low _ (ruleFault h (r .text)) (spotPlace (r .spot)) (w .0)) (rules-low h rs (w .1))
 
-head-low : (m : ℕ) (gs : Groups) (n : ℕ) (h : Head) (rs : List Rule) → leb n m ≡ true → lowRules m rs ≡ true → allOf (low m) (headFaults gs n h rs) ≡ true
+head-low : (gs : Groups) (n : Spot) (h : Head) (rs : List Rule) → lowSpot n ≡ true → lowRules rs ≡ true → allOf low (headFaults gs n h rs) ≡ true
 unfolding headFaults allOf
-head-low m gs n (bad k) rs e l = both-and _ _ e (orphans-low m rs l)
-head-low m gs n (defines g ms) rs e l =
-    all-append (low m) (refusedIf (defined gs g || leb mostGroups (length gs)) 10 n) (orphans rs) (if-low m _ 10 n e) (orphans-low m rs l)
-head-low m gs n (applies h) rs e l = rules-low m h rs l
+head-low gs n (bad k) rs e l = both-and _ _ e (orphans-low rs l)
+head-low gs n (defines g ms) rs e l =
+    all-append low (refusedIf (defined gs g || leb mostGroups (length gs)) 10 (spotPlace n)) (orphans rs) (if-low _ 10 (spotPlace n) e) (orphans-low rs l)
+head-low gs n (applies h) rs e l = rules-low h rs l
+head-low gs n ends rs e l = orphans-low rs l
 
-faults-low : (m : ℕ) (gs : Groups) (ss : List Section) → lowSections m ss ≡ true → allOf (low m) (faults gs ss) ≡ true
+faults-low : (gs : Groups) (ss : List Section) → lowSections ss ≡ true → allOf low (faults gs ss) ≡ true
 unfolding faults allOf
-faults-low m gs [] h = refl
-faults-low m gs (s ∷ ss) h =
-    let w = and-both (leb (s .number) m && lowRules m (s .rules)) (lowSections m ss) h in
-    let q = and-both (leb (s .number) m) (lowRules m (s .rules)) (w .0) in
-    all-append (low m) (headFaults gs (s .number) (s .head) (s .rules)) _ (head-low m gs (s .number) (s .head) (s .rules) (q .0) (q .1))
-    (faults-low m (withGroup (s .head) gs) ss (w .1))
+faults-low gs [] h = refl
+faults-low gs (s ∷ ss) h =
+    let w = and-both (lowSpot (s .spot) && lowRules (s .rules)) (lowSections ss) h in
+    let q = and-both (lowSpot (s .spot)) (lowRules (s .rules)) (w .0) in
+    all-append low (headFaults gs (s .spot) (s .head) (s .rules)) _ (head-low gs (s .spot) (s .head) (s .rules) (q .0) (q .1))
+    (faults-low (withGroup (s .head) gs) ss (w .1))
 
-file-low : (m : ℕ) (f : Text) → suc (length f) ≤ m → allOf (low m) (lineFaults f) ≡ true
-unfolding lineFaults lines
-file-low m f h =
-    let l = lines-low m 1 false (marks Start f) (omega (arith, marks-length Start f)) in
-    let q = sections-low m (lines f) l in
-    all-append (low m) (orphans (sections (lines f) .0)) _ (orphans-low m (sections (lines f) .0) (q .0)) (faults-low m [] (sections (lines f) .1) (q .1))
+file-low : (x : Source) → length (filesOf (x .bundle)) ≤ 65535 → firstLong (filesOf (x .bundle)) ≡ 0 → allOf low (lineFaults x) ≡ true
+unfolding lineFaults
+file-low x h e =
+    let q = sections-low (writtenOut x) (written-low x h e) in
+    all-append low (orphans (sections (writtenOut x) .0)) _ (orphans-low (sections (writtenOut x) .0) (q .0)) (faults-low [] (sections (writtenOut x) .1) (q .1))
 
--- a place of an answer: the longest file has at most 65,537 lines
+-- a place of an answer
 
-abbrev most : ℕ
-most = suc longestFile
-
-texts-low : (t : Texts) → allOf (low most) (textRefusals t) ≡ true
+texts-low : (t : Texts) → allOf low (textRefusals t) ≡ true
 unfolding textRefusals
 texts-low t =
-    all-append (low most) (refusedIf _ 1 1) _ (if-low most _ 1 1 refl)
-    (all-append (low most) (refusedIf _ 1 2) _ (if-low most _ 1 2 refl)
-    (all-append (low most) (refusedIf _ 1 3) _ (if-low most _ 1 3 refl) (if-low most _ 1 4 refl)))
+    all-append low (refusedIf _ 1 1) _ (if-low _ 1 1 refl)
+    (all-append low (refusedIf _ 1 2) _ (if-low _ 1 2 refl)
+    (all-append low (refusedIf _ 1 3) _ (if-low _ 1 3 refl) (if-low _ 1 4 refl)))
 
-counts-low : (t : Texts) → allOf (low most) (countRefusals t) ≡ true
+counts-low : (t : Texts) → allOf low (countRefusals t) ≡ true
 unfolding countRefusals
 counts-low t =
-    all-append (low most) (refusedIf _ 2 2) _ (if-low most _ 2 2 refl)
-    (all-append (low most) (refusedIf _ 2 3) _ (if-low most _ 2 3 refl) (if-low most _ 2 4 refl))
+    all-append low (refusedIf _ 2 2) _ (if-low _ 2 2 refl)
+    (all-append low (refusedIf _ 2 3) _ (if-low _ 2 3 refl) (if-low _ 2 4 refl))
 
-profile-low : (t : Texts) → allOf (low most) (profileRefusals t) ≡ true
+profile-low : (t : Texts) → allOf low (profileRefusals t) ≡ true
 unfolding profileRefusals
-profile-low t = all-append (low most) (textRefusals t) (countRefusals t) (texts-low t) (counts-low t)
+profile-low t = all-append low (textRefusals t) (countRefusals t) (texts-low t) (counts-low t)
 
-first-low : (rs : List Refusal) (ts : List Text) → allOf (low most) rs ≡ true → placeOf (firstOf rs ts) ≤ most
+first-low : (rs : List Refusal) (ts : List Text) → allOf low rs ≡ true → placeOf (firstOf rs ts) ≤ most
 unfolding allOf firstOf placeOf
 first-low [] ts h = omega arith
-first-low (r ∷ rs) ts h = leb-true (r .place) most (and-both (leb (r .place) most) (allOf (low most) rs) h .0)
+first-low (r ∷ rs) ts h = leb-true (r .place) most (and-both (leb (r .place) most) (allOf low rs) h .0)
 
 -- of refusals with a low one among them, only those up to it can be the first
-up-to : (ps : List Refusal) (r : Refusal) (rs : List Refusal) (ts : List Text) → allOf (low most) ps ≡ true → low most r ≡ true →
+up-to : (ps : List Refusal) (r : Refusal) (rs : List Refusal) (ts : List Text) → allOf low ps ≡ true → low r ≡ true →
     placeOf (firstOf (ps ++ (r ∷ rs)) ts) ≤ most
 unfolding allOf firstOf placeOf
 up-to [] r rs ts h k = leb-true (r .place) most k
 up-to (p ∷ ps) r rs ts h k = first-low (p ∷ ps) ts h
 
-pub place-low : (room : ℕ) (f : Text) (t : Texts) → placeOf (answer room f t) ≤ most
-unfolding answer refusals fileRefusals refusedIf
-place-low room f t = go (ltb longestFile (length f)) refl
+long-few : (k : ℕ) (fs : List File) → 1 ≤ k → longFrom k fs < k + length fs
+unfolding longFrom
+long-few k [] h = omega arith
+long-few k (f ∷ fs) h = go (ltb longestFile (length (f .bytes))) (long-few (k + 1) fs (omega arith))
   where
-    go : (b : Bool) → ltb longestFile (length f) ≡ b → placeOf (firstOf (refusals room f t) (tenTexts f t)) ≤ most
-    go true e = rw e (up-to (profileRefusals t) _ _ (tenTexts f t) (profile-low t) refl)
-    go false e =
-        let l : suc (length f) ≤ most = omega (arith, ltb-false longestFile (length f) e) in
-        rw e (first-low _ (tenTexts f t)
-        (all-append (low most) (profileRefusals t) _ (profile-low t) (all-append (low most) (lineFaults f) _ (file-low most f l)
-        (if-low most (noRoom room (total (tenTexts f t))) 11 0 refl))))
+    go : (t : Bool) → longFrom (k + 1) fs < k + 1 + length fs → cond t k (longFrom (k + 1) fs) < k + suc (length fs)
+    go true q = omega arith
+    go false q = omega arith
+
+module _ (room : ℕ) (x : Source) (t : Texts) (few : whole (x .bundle) ≡ true → length (filesOf (x .bundle)) ≤ 65535) where
+  pub place-low : placeOf (answer room x t) ≤ most
+  unfolding answer refusals fileRefusals bundleRefusals refusedIf firstLong
+  place-low = go (whole (x .bundle)) (eqb (firstLong (filesOf (x .bundle))) 0) refl refl
+    where
+      go : (w b : Bool) → whole (x .bundle) ≡ w → eqb (firstLong (filesOf (x .bundle))) 0 ≡ b → placeOf (firstOf (refusals room x t) (tenTexts x t)) ≤ most
+      go false b e f = rw e (up-to (profileRefusals t) _ _ (tenTexts x t) (profile-low t) refl)
+      go true false e f =
+          let l : longFrom 1 (filesOf (x .bundle)) < 1 + length (filesOf (x .bundle)) = long-few 1 (filesOf (x .bundle)) (omega arith) in
+          rw (e, f) (up-to (profileRefusals t) _ _ (tenTexts x t) (profile-low t)
+          (spot-low (record { file = firstLong (filesOf (x .bundle)); line = 0 }) (omega (arith, few e)) (omega arith)))
+      go true true e f =
+          rw (e, f) (first-low _ (tenTexts x t)
+          (all-append low (profileRefusals t) _ (profile-low t) (all-append low (lineFaults x) _ (file-low x (few e) (eqb-true _ 0 f))
+          (if-low (noRoom room (total (tenTexts x t))) 11 0 refl))))
 
 -- and a number
-few : (room : ℕ) (a : Answer) → Answered room a → numberOf a ≤ 11
-unfolding Answered numberOf
-few room (refused r) h = h .1
-few room (accepted ts) h = omega arith
+few-numbers : (room : ℕ) (a : Answer) → Answered room a → numberIn a ≤ 15
+unfolding Answered numberIn
+few-numbers room (refused r) h = h .1
+few-numbers room (accepted ts) h = omega arith
 
-pub number-low : (room : ℕ) (f : Text) (t : Texts) → numberOf (answer room f t) ≤ 11
-number-low room f t = few room (answer room f t) (answered room f t)
+pub number-low : (room : ℕ) (x : Source) (t : Texts) → numberIn (answer room x t) ≤ 15
+number-low room x t = few-numbers room (answer room x t) (answered room x t)

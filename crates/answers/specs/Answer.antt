@@ -11,6 +11,7 @@ use Rattle.text.specs.Bytes.{Text}
 use Rattle.text.specs.Refusals.{refusedIf}
 use Rattle.profile.specs.Profile.{Texts, profileOf}
 use Rattle.profile.specs.Refusals.{profileRefusals}
+use Rattle.rules.specs.Written.{Source}
 use Rattle.rules.specs.Faults.{fileRefusals}
 use Rattle.answers.specs.declared.Outcome.{Outcome}
 use Rattle.answers.specs.Firings.{Firing, fileFirings}
@@ -21,8 +22,8 @@ unfoldable pub textsFrom : ℕ → ℕ → List Firing → List Text
 textsFrom c zero fs = []
 textsFrom c (suc n) fs = base (valuesOf c fs) ∷ additions (valuesOf c fs) ∷ textsFrom (suc c) n fs
 
-unfoldable pub tenTexts : Text → Texts → List Text
-tenTexts f t = textsFrom 0 5 (fileFirings f (profileOf t))
+unfoldable pub tenTexts : Source → Texts → List Text
+tenTexts x t = textsFrom 0 5 (fileFirings x (profileOf t))
 
 unfoldable pub sum : List ℕ → ℕ
 sum [] = 0
@@ -40,9 +41,9 @@ total ts = sum (map length ts)
 unfoldable pub noRoom : ℕ → ℕ → Bool
 noRoom room n = ltb room n || ltb longestTotal n
 
--- "Order: 1 over all texts in turn, then 2 likewise, 3, then the first bad line .. with its lowest number ..; last 11."
-unfoldable pub refusals : ℕ → Text → Texts → List Refusal
-refusals room f t = profileRefusals t ++ (fileRefusals f ++ refusedIf (noRoom room (total (tenTexts f t))) 11 0)
+-- "Order: 1 over all texts in turn, then 2 likewise, 3, then the first bad line .. with its lowest number ..; last 11." #101: 12 before 3
+unfoldable pub refusals : ℕ → Source → Texts → List Refusal
+refusals room x t = profileRefusals t ++ (fileRefusals x ++ refusedIf (noRoom room (total (tenTexts x t))) 11 0)
 
 pub data Answer : Type 0 where
   refused : Refusal → Answer
@@ -53,8 +54,8 @@ unfoldable pub firstOf : List Refusal → List Text → Answer
 firstOf [] ts = accepted ts
 firstOf (r ∷ rs) ts = refused r
 
-unfoldable pub answer : ℕ → Text → Texts → Answer
-answer room f t = firstOf (refusals room f t) (tenTexts f t)
+unfoldable pub answer : ℕ → Source → Texts → Answer
+answer room x t = firstOf (refusals room x t) (tenTexts x t)
 
 -- "The accepted answer is number 0, place 0 and ten lengths". "A refusal has ten zero lengths"
 unfoldable pub numberOf : Answer → ℕ
@@ -77,10 +78,10 @@ unfoldable pub bufferAfter : Text → Answer → Text
 bufferAfter d (refused r) = d
 bufferAfter d (accepted ts) = joined ts ++ drop (total ts) d
 
--- What a resolve is: of a file f, four texts t and a lent buffer, which goes from d to d′, it makes the answer r.
-pub record Resolved (f : Text) (t : Texts) (d d′ : Text) (r : Outcome) : Type 0 where
-  pub result : r ≡ outcome (answer (length d) f t)
-  pub buffer : d′ ≡ bufferAfter d (answer (length d) f t)
+-- What a resolve is: of a bundle and three path texts x, four texts t and a lent buffer, which goes from d to d′, it makes the answer r.
+pub record Resolved (x : Source) (t : Texts) (d d′ : Text) (r : Outcome) : Type 0 where
+  pub result : r ≡ outcome (answer (length d) x t)
+  pub buffer : d′ ≡ bufferAfter d (answer (length d) x t)
 
 -- the texts of these lengths that a buffer begins with, "without gaps"
 unfoldable pub textsIn : Text → List ℕ → List Text
@@ -98,7 +99,7 @@ stretchLength ns c = stretchStart ns (c + 1) - stretchStart ns c
 unfoldable pub stretch : Text → List ℕ → ℕ → Text
 stretch d ns c = cond (ltb 4 c || ltb (length d) (sum ns)) [] (take (stretchLength ns c) (drop (stretchStart ns c) d))
 
--- What every answer is: ten texts that fit, or a refusal with a number of document 01.
+-- What every answer is: ten texts that fit, or a refusal with a number of documents 01 and 02.
 unfoldable pub Answered : ℕ → Answer → Type 0
 Answered room (accepted ts) = (length ts ≡ 10) × (total ts ≤ room) × (total ts ≤ longestTotal)
-Answered room (refused r) = (1 ≤ r .number) × (r .number ≤ 11)
+Answered room (refused r) = (1 ≤ r .number) × (r .number ≤ 15)

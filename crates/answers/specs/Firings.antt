@@ -3,35 +3,35 @@ use Prim.Native.Nat.{ℕ}
 use mathlib.Core.List.{List, [], _∷_, _++_}
 use mathlib.Core.Bool.{cond}
 use Rattle.text.specs.Bytes.{Text, Words, empty, anyOf, concatMap}
-use Rattle.text.specs.Lines.{lines}
 use Rattle.profile.specs.Profile.{Profile, layoutCount}
 use Rattle.rules.specs.Headings.{Heading}
-use Rattle.rules.specs.Sections.{Rule, Head, bad, defines, applies, Section, sections}
+use Rattle.rules.specs.Sections.{Spot, Rule, Head, bad, defines, applies, ends, Section, sections}
+use Rattle.rules.specs.Written.{Source, writtenOut}
 use Rattle.rules.specs.Faults.{Groups, withGroup, rightWords}
 use Rattle.values.specs.Spread.{expanded}
 use Rattle.answers.specs.Matching.{members, ruleMatches, isOptions}
 use Rattle.answers.specs.Layouts.{layoutsOf}
 
--- a value that fired: the rule's line, the layout (0 if the heading has neither layout nor variant), the component, the text
+-- a value that fired: the rule's place, the layout (0 if the heading has neither layout nor variant), the component, the text
 pub record Firing : Type 0 where
-  pub line : ℕ
+  pub spot : Spot
   pub layout : ℕ
   pub component : ℕ
   pub value : Text
 
 -- "A fired value that is empty does nothing."
-unfoldable pub fired : ℕ → ℕ → ℕ → Text → List Firing
-fired n k c v = cond (empty v) [] (record { line = n; layout = k; component = c; value = v } ∷ [])
+unfoldable pub fired : Spot → ℕ → ℕ → Text → List Firing
+fired n k c v = cond (empty v) [] (record { spot = n; layout = k; component = c; value = v } ∷ [])
 
 -- the values of one rule, in the heading's order
-unfoldable pub ruleFires : Profile → ℕ → ℕ → List ℕ → Words → List Firing
+unfoldable pub ruleFires : Profile → Spot → ℕ → List ℕ → Words → List Firing
 ruleFires p n k [] ws = []
 ruleFires p n k (c ∷ cs) [] = []
 ruleFires p n k (c ∷ cs) (w ∷ ws) = fired n k c (expanded p k w) ++ ruleFires p n k cs ws
 
 -- a rule fired at a layout
 unfoldable pub firesAt : Profile → Heading → Rule → ℕ → List Firing
-firesAt p h r k = ruleFires p (r .number) k (h .components) (rightWords h (r .text))
+firesAt p h r k = ruleFires p (r .spot) k (h .components) (rightWords h (r .text))
 
 -- "In a set without an option column the first matching rule fires and the rest are passed over": the rules of a set at a layout
 unfoldable pub setFires : (Text → Words) → Profile → Heading → ℕ → List Rule → List Firing
@@ -50,6 +50,7 @@ ruleByRule look p h ks (r ∷ rs) =
 unfoldable pub headFires : Groups → Profile → Head → List Rule → List Firing
 headFires gs p (bad k) rs = []
 headFires gs p (defines g ms) rs = []
+headFires gs p ends rs = []
 headFires gs p (applies h) rs =
     cond (anyOf isOptions (h .columns))
     (ruleByRule (members gs) p h (layoutsOf (layoutCount p) h) rs)
@@ -59,5 +60,5 @@ unfoldable pub firings : Groups → Profile → List Section → List Firing
 firings gs p [] = []
 firings gs p (s ∷ ss) = headFires gs p (s .head) (s .rules) ++ firings (withGroup (s .head) gs) p ss
 
-unfoldable pub fileFirings : Text → Profile → List Firing
-fileFirings f p = firings [] p (sections (lines f) .1)
+unfoldable pub fileFirings : Source → Profile → List Firing
+fileFirings x p = firings [] p (sections (writtenOut x) .1)

@@ -12,6 +12,7 @@ use Rattle.text.specs.Bytes.{Text, empty}
 use Rattle.output.specs.Store.{stored, farthest, past, Wrote}
 use Rattle.values.specs.Spread.{signed}
 use Rattle.firing.specs.declared.Cursors.{Cursors}
+use Rattle.rules.specs.Sections.{Spot}
 use Rattle.answers.specs.Firings.{Firing, fired}
 use Rattle.firing.specs.Writing.{movedAt, basedAt, putCur, putBuf, full, fireCur, fireBuf, runCur, runBuf, FiredOne, Low}
 use Rattle.firing.proofs.Regions.{low-put}
@@ -65,11 +66,11 @@ module _ (d₀ : Text) (q₀ : Cursors) (whole : List Firing) (d : Text) (q : Cu
   going-end v = (sym (v .bytes), sym (v .places))
 
 -- what fires of a value
-none-fires : (l k c : ℕ) (v : Text) → empty v ≡ true → fired l k c v ≡ []
+none-fires : (l : Spot) (k c : ℕ) (v : Text) → empty v ≡ true → fired l k c v ≡ []
 unfolding fired
 none-fires l k c v h = rw h
 
-one-fires : (l k c : ℕ) (v : Text) → empty v ≡ false → fired l k c v ≡ record { line = l; layout = k; component = c; value = v } ∷ []
+one-fires : (l : Spot) (k c : ℕ) (v : Text) → empty v ≡ false → fired l k c v ≡ record { spot = l; layout = k; component = c; value = v } ∷ []
 unfolding fired
 one-fires l k c v h = rw h
 

@@ -21,6 +21,7 @@ use Rattle.values.specs.Spread.{cuts, spread, expanded}
 use Rattle.values.proofs.Filling.{filled-plain}
 use Rattle.values.proofs.Profiles.{expanded-by}
 use Rattle.firing.specs.declared.Cursors.{Cursors}
+use Rattle.rules.specs.Sections.{Spot}
 use Rattle.answers.specs.Firings.{fired, ruleFires}
 use Rattle.firing.specs.Writing.{FiredOne, Low, runBuf, runCur, ShortWords, FiredRule, BehindFirst}
 use Rattle.firing.specs.Line.{Fires, RightWords}
@@ -32,12 +33,12 @@ value-fired p n k x a b r d d′ q q′ c e h f =
     let z : r - 0 ≡ r = omega arith in
     rw (expanded-by p k n x (take (r - 0) b) e (rw z (h .text))) at f
 
-fires-cons : (p : Profile) (l k c : ℕ) (cs : List ℕ) (w : Text) (ws : Words) →
+fires-cons : (p : Profile) (l : Spot) (k c : ℕ) (cs : List ℕ) (w : Text) (ws : Words) →
     ruleFires p l k (c ∷ cs) (w ∷ ws) ≡ fired l k c (expanded p k w) ++ ruleFires p l k cs ws
 unfolding ruleFires
 fires-cons p l k c cs w ws = refl
 
-fires-none : (p : Profile) (l k : ℕ) (cs : List ℕ) → ruleFires p l k cs [] ≡ []
+fires-none : (p : Profile) (l : Spot) (k : ℕ) (cs : List ℕ) → ruleFires p l k cs [] ≡ []
 unfolding ruleFires
 fires-none p l k [] = refl
 fires-none p l k (c ∷ cs) = refl
@@ -68,7 +69,7 @@ module _ (p : Profile) (s : Text) (from n : ℕ) (d₀ : Text) (q₀ : Cursors) 
     pub passing : Passing s from n i m
     pub count : j + length (left s i) ≡ length (left s from)
     pub short : ShortWords (left s i)
-    pub going : (l : ℕ) → Going d₀ q₀ (ruleFires p l k cs (left s from)) d q (ruleFires p l k (drop j cs) (left s i))
+    pub going : (l : Spot) → Going d₀ q₀ (ruleFires p l k cs (left s from)) d q (ruleFires p l k (drop j cs) (left s i))
 
   pub words-start : from ≤ length s → n ≤ from + 1 → ShortWords (left s from) → Low (q₀ .at) → WordsGoing d₀ q₀ from n 0
   words-start a b h low = record { passing = passing-start s from n a b; count = omega arith; short = h; going = λ l. going-start d₀ q₀ _ low }
@@ -101,7 +102,7 @@ module _ (p : Profile) (s : Text) (from n : ℕ) (d₀ : Text) (q₀ : Cursors) 
     fired-all : left s i ≡ [] → FiredRule p d₀ d q₀ q k cs (left s from)
     fired-all none = record { bytes = λ x. over x .0; places = λ x. over x .1 }
       where
-        over : (x : ℕ) → (d ≡ runBuf d₀ q₀ (ruleFires p x k cs (left s from))) × (q ≡ runCur q₀ (ruleFires p x k cs (left s from)))
+        over : (x : Spot) → (d ≡ runBuf d₀ q₀ (ruleFires p x k cs (left s from))) × (q ≡ runCur q₀ (ruleFires p x k cs (left s from)))
         over x = going-end d₀ q₀ _ d q (rw (none, fires-none p x k (drop j cs)) at (v .going x))
 
     -- all words have fired
@@ -137,7 +138,7 @@ module _ (s : Text) (from n : ℕ) where
 -- a rule fires the same with any profile that has the same values
 
 module _ (p p′ : Profile) (k : ℕ) (same : (w : Text) → expanded p k w ≡ expanded p′ k w) where
-  fires-same : (l : ℕ) (cs : List ℕ) (ws : Words) → ruleFires p l k cs ws ≡ ruleFires p′ l k cs ws
+  fires-same : (l : Spot) (cs : List ℕ) (ws : Words) → ruleFires p l k cs ws ≡ ruleFires p′ l k cs ws
   unfolding ruleFires
   fires-same l [] ws = refl
   fires-same l (c ∷ cs) [] = refl

@@ -7,6 +7,7 @@ use lib.ListN.{replicate}
 use lib.Dec.{leb}
 use Rattle.text.specs.Bytes.{Text, part, allOf}
 use Rattle.profile.specs.Profile.{Texts}
+use Rattle.rules.specs.Written.{Source}
 use Rattle.answers.specs.declared.Outcome.{Outcome}
 use Rattle.answers.specs.Answer.{tenTexts, answer, outcome}
 use Rattle.firing.specs.Writing.{starts}
@@ -30,9 +31,9 @@ unfoldable pub textsAt : ℕ → Text → List ℕ → List Text
 textsAt k d [] = []
 textsAt k d (n ∷ ns) = part d k (k + n) ∷ textsAt (k + regionSize) d ns
 
--- What a resolve of a file f for the texts t that is lent `room` bytes leaves in a stage d, with its answer r: the ten texts, unless one is longer than its
+-- What a resolve of a bundle and path texts f for the texts t that is lent `room` bytes leaves in a stage d, with its answer r: the ten texts, unless one is longer than its
 -- region and has run into the next.
-pub record Staged (room : ℕ) (f : Text) (t : Texts) (d : Text) (r : Outcome) : Type 0 where
+pub record Staged (room : ℕ) (f : Source) (t : Texts) (d : Text) (r : Outcome) : Type 0 where
   pub result : r ≡ outcome (answer room f t)
   pub texts : r .number ≡ 0 → inRegions (r .lengths) ≡ true → textsAt 0 d (r .lengths) ≡ tenTexts f t
 

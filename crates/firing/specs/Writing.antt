@@ -14,6 +14,7 @@ use Rattle.output.specs.Store.{stored, farthest, past}
 use Rattle.values.specs.Spread.{signed}
 use Rattle.firing.specs.declared.Cursors.{Cursors}
 use Rattle.profile.specs.Profile.{Profile}
+use Rattle.rules.specs.Sections.{Spot}
 use Rattle.answers.specs.Firings.{Firing, fired, ruleFires}
 
 -- the first cursors: no base is set, and no position has moved
@@ -66,8 +67,8 @@ runBuf d q (f ∷ fs) = runBuf (fireBuf d q f) (fireCur q f) fs
 
 -- the value v of component c was fired, at whichever line and layout: buffer and cursors went from d and q to d′ and q′
 pub record FiredOne (d d′ : Text) (q q′ : Cursors) (c : ℕ) (v : Text) : Type 0 where
-  pub bytes : (l k : ℕ) → d′ ≡ runBuf d q (fired l k c v)
-  pub places : (l k : ℕ) → q′ ≡ runCur q (fired l k c v)
+  pub bytes : (l : Spot) (k : ℕ) → d′ ≡ runBuf d q (fired l k c v)
+  pub places : (l : Spot) (k : ℕ) → q′ ≡ runCur q (fired l k c v)
 
 -- no position is behind the last
 unfoldable pub Low : List ℕ → Type 0
@@ -83,10 +84,10 @@ starts k (n ∷ ns) = k ∷ starts (k + n) ns
 abbrev pub ShortWords : Words → Type 0
 ShortWords ws = anyOf tooLong ws ≡ false
 
--- the right words ws fired for the components cs at the layout k, whatever line they stand in
+-- the right words ws fired for the components cs at the layout k, whatever place they stand at
 pub record FiredRule (p : Profile) (d d′ : Text) (q q′ : Cursors) (k : ℕ) (cs : List ℕ) (ws : Words) : Type 0 where
-  pub bytes : (l : ℕ) → d′ ≡ runBuf d q (ruleFires p l k cs ws)
-  pub places : (l : ℕ) → q′ ≡ runCur q (ruleFires p l k cs ws)
+  pub bytes : (l : Spot) → d′ ≡ runBuf d q (ruleFires p l k cs ws)
+  pub places : (l : Spot) → q′ ≡ runCur q (ruleFires p l k cs ws)
 
 -- a place between the first word of a line from `from` on, which lies in the physical line n, and its second; or before its end, if it has none
 pub record BehindFirst (s : Text) (from n i m : ℕ) : Type 0 where

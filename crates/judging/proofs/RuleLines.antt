@@ -25,7 +25,6 @@ use Rattle.rules.specs.Plain.{RuleRead}
 use Rattle.rules.specs.Checking.{lineOf, presentFault, lineFault}
 use Rattle.rules.proofs.PlainLines.{passes-rule, passes-none}
 use Rattle.rules.proofs.LineKinds.{line-wrong, line-ignored, line-rule}
-use Rattle.rules.proofs.CheckSteps.{refused-first, check-cons, entry-any}
 use Rattle.judging.specs.declared.Judged.{Judged}
 use Rattle.judging.specs.Lines.{RestRead, PlainStart, WordsJudged, RuleLineRead, LineRefused}
 
@@ -124,7 +123,7 @@ module _ (s : Text) (at n : ℕ) (p : Present) (b : Bool) (from m : ℕ) (lt : a
         fewer = omega (arith, o .few, r .low);
         read = line-opened z ∙ rw (r .onto m (o .few)) refl;
         onto = r .onto m (o .few);
-        fault = r .passes n .fault;
+        fault = r .passes 0 .fault;
       }
 
   module _ (z : b ≡ false) (j : Judged) (w : WordsJudged s from m p j) where
@@ -139,13 +138,15 @@ module _ (s : Text) (at n : ℕ) (p : Present) (b : Bool) (from m : ℕ) (lt : a
           fewer = w .few;
           read = line-opened z ∙ rw (w .onto) refl;
           onto = w .onto;
-          fault = λ ns. rw (entry-any n false (left s from)) (sym (w .fault ns) ∙ h);
+          fault = λ ns. sym (w .fault ns) ∙ h;
         }
 
     pub words-refused : (j .fault ≡ 0 → ⊥) → LineRefused s at n p (j .fault)
     words-refused h =
         record {
           some = h;
-          first = λ ns.
-              rw (line-opened z, check-cons, entry-any n false (left s from), ← w .fault ns) (refused-first (j .fault) n _ h);
+          words = left s from;
+          more = ahead s from m;
+          read = line-opened z;
+          fault = λ ns. sym (w .fault ns);
         }

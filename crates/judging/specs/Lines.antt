@@ -4,12 +4,12 @@ use mathlib.Core.Path.{_≡_}
 use mathlib.Core.List.{List, _∷_}
 use mathlib.Core.Bool.{true, false}
 use lib.ListN.{length}
-use Rattle.text.specs.Bytes.{Text}
-use Rattle.text.specs.Refusals.{firstRefusal}
+use Rattle.text.specs.Bytes.{Text, Words}
+use Rattle.text.specs.Lines.{Line}
 use Rattle.text.specs.Reading.{left, ahead, follow, Opens}
 use Rattle.rules.specs.declared.Present.{Present}
 use Rattle.rules.specs.Entries.{entryOf}
-use Rattle.rules.specs.Checking.{lineOf, lineFault, checkFrom}
+use Rattle.rules.specs.Checking.{lineOf, lineFault}
 use Rattle.rules.specs.Plain.{Passes}
 use Rattle.judging.specs.declared.Judged.{Judged}
 use Rattle.judging.specs.declared.RuleLine.{RuleLine}
@@ -44,12 +44,15 @@ pub record RuleLineRead (s : Text) (at n : ℕ) (p : Present) (from m next n′ 
   pub fewer : n′ ≤ next + 1
   pub read : follow s at n ≡ lineOf n false (left s from) ∷ follow s next n′
   pub onto : ahead s from m ≡ follow s next n′
-  pub fault : (ns : List Text) → lineFault ns p (entryOf (lineOf n false (left s from))) ≡ 0
+  pub fault : (ns : List Text) → lineFault ns p (entryOf (lineOf 0 false (left s from))) ≡ 0
 
--- the line is refused with the number k, whatever groups there are
+-- the line is no heading, and refused with the number k, whatever groups there are
 pub record LineRefused (s : Text) (at n : ℕ) (p : Present) (k : ℕ) : Type 0 where
   pub some : k ≡ 0 → ⊥
-  pub first : (ns : List Text) → firstRefusal (checkFrom ns p (follow s at n)) ≡ record { number = k; place = n }
+  pub words : Words
+  pub more : List Line
+  pub read : follow s at n ≡ lineOf n false words ∷ more
+  pub fault : (ns : List Text) → lineFault ns p (entryOf (lineOf 0 false words)) ≡ k
 
 abbrev pub RuleLineOf : Text → ℕ → ℕ → Present → RuleLine → Type 0
 RuleLineOf s at n p (line.Read from m next n′) = RuleLineRead s at n p from m next n′

@@ -31,15 +31,24 @@ pub struct Judged {
     pub after: usize,
 }
 
-// The heading of a set, or the line's refusal; `set` is then empty: `noSet` of specs/Sets.antt.
+// The path of an include line: whether there is one, and where it stands.
+pub struct IncludePath {
+    pub some: bool,
+    pub start: usize,
+    pub end: usize,
+}
+
+// The heading of a set; or the path of an include line, or the line's refusal: `set` is then empty, `noSet` of specs/Sets.antt.
 pub struct SetJudged {
     pub fault: usize,
+    pub path: IncludePath,
     pub set: SetHeading,
 }
 
 // The same, with the start of the next line and its number.
 pub struct SetLine {
     pub fault: usize,
+    pub path: IncludePath,
     pub set: SetHeading,
     pub next: usize,
     pub after: usize,

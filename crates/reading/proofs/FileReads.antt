@@ -1,182 +1,147 @@
--- A file read from its first line on: the loop over its steps.
+-- A file read from the walk's state on: the loop over its steps and its include lines.
 use Prim.Native.Nat.{ℕ, _+_, _*_, _-_, _≤_, _<_}
 use native.Mathlib.Omega.{arith}
 use mathlib.Core.Path.{_≡_, refl, sym, ap, _∙_}
-use mathlib.Core.List.{List, [], _∷_, map}
+use mathlib.Core.List.{List, [], _∷_, _++_}
 use mathlib.Core.Bool.{Bool, true, false, cond}
-use lib.ListN.{length, getD, take, replicate, length-replicate}
-use Rattle.text.specs.Limits.{mostGroups, longestWord}
+use lib.ListN.{length}
 use Rattle.text.specs.Bytes.{Text}
-use Rattle.text.specs.Lines.{lines}
-use Rattle.text.specs.Refusals.{firstRefusal}
-use Rattle.text.specs.Reading.{follow}
 use Rattle.text.proofs.Lists.{no}
-use Rattle.output.specs.Store.{farthest}
-use Rattle.profile.specs.Profile.{Texts, profileOf}
-use Rattle.rules.specs.declared.SetHeading.{SetHeading}
-use Rattle.rules.specs.Faults.{lineFaults}
-use Rattle.rules.specs.Checking.{noHeading, checkFrom}
-use Rattle.rules.proofs.LineChecks.{lines-checked}
-use Rattle.values.specs.Filling.{mostPerByte}
-use Rattle.firing.specs.declared.Cursors.{Cursors}
-use Rattle.firing.specs.Writing.{Low, runBuf, runCur}
-use Rattle.firing.specs.Line.{Fires}
-use Rattle.rules.specs.Held.{SetSized}
-use Rattle.names.specs.declared.Held.{Held}
-use Rattle.answers.specs.Firings.{fileFirings}
+use Rattle.profile.specs.Profile.{Texts}
+use Rattle.rules.specs.Sections.{Placed}
+use Rattle.rules.specs.Written.{Source, included}
 use Rattle.reading.specs.declared.Reading.{Reading}
-use Rattle.reading.specs.declared.FileRead.{FileRead}
-use Rattle.reading.specs.Order.{firingsFrom}
-use Rattle.reading.specs.Owed.{Kept, owed}
-use Rattle.reading.specs.Opening.{closedSet}
-use Rattle.reading.specs.Keeping.{mostPlaces}
-use Rattle.reading.specs.States.{Sound, ReadTo}
-use Rattle.reading.specs.Steps.{Leads, Stepped}
-use Rattle.reading.specs.Files.{Started, NamesStart, HoldsProfile, FileReadOf}
-use Rattle.reading.proofs.LineFires.{firings-start}
-use Rattle.reading.proofs.Stepping.{owed-closed, closed-kept}
+use Rattle.reading.specs.declared.Walk.{Walk}
+use Rattle.reading.specs.Around.{Around, textFrom, waitingText, aheadOf}
+use Rattle.reading.specs.States.{Sound, Whole, ReadTo}
+use Rattle.reading.specs.Steps.{Leads, Closed, Stepped}
+use Rattle.reading.specs.Including.{fileOf, Lent, BeginsFile, AtInclude, FileWent, IncludeWent}
+use Rattle.reading.proofs.Includes.{sound-scratch}
 
-pub started : (h : Held) (q : Cursors) (g : SetHeading) → SetSized g →
-    Started h q (record {
-      at = 0;
-      line = 1;
-      used = h .used;
-      count = h .count;
-      groups = 0;
-      set = closedSet noHeading g;
-      places = replicate mostPlaces 0;
-      cursors = q;
-      fault = 0;
-      more = true;
-    })
-started h q g v = record { heading = g; sized = v; is = refl }
+-- what is ahead, with an include line that waits or without
+ahead-none : (c : Around) (s : Text) (r : Reading) → r .waiting .some ≡ false → aheadOf c s r ≡ textFrom c s (r .at) (r .line)
+ahead-none c s r e = ap (λ (b : Bool). cond b (waitingText c s r) [] ++ textFrom c s (r .at) (r .line)) e
 
-first-lines : (s : Text) → follow s 0 1 ≡ lines s
-unfolding follow lines
-first-lines s = refl
+ahead-some : (c : Around) (s : Text) (r : Reading) → r .waiting .some ≡ true → aheadOf c s r ≡ waitingText c s r ++ textFrom c s (r .at) (r .line)
+ahead-some c s r e = ap (λ (b : Bool). cond b (waitingText c s r) [] ++ textFrom c s (r .at) (r .line)) e
 
-module _ (n : ℕ) (s : Text) (h : Held) (d₀ : Text) (t₀ rows₀ : List ℕ) (flags₀ : List Bool) (b : List ℕ) (w₀ : Text) (q₀ : Cursors) where
+read-as : (a : Whole) (n : ℕ) (s d : Text) (t rows : List ℕ) (flags : List Bool) (b : List ℕ) (w : Text) (p : Texts) (ls ls′ : List Placed) (r : Reading) → ls ≡ ls′ →
+    ReadTo a n s d t rows flags b w p ls r → ReadTo a n s d t rows flags b w p ls′ r
+read-as a n s d t rows flags b w p ls ls′ r e u = rw e at u
+
+module _ (x : Source) (k : Walk) (d₀ : Text) (t₀ rows₀ : List ℕ) (flags₀ : List Bool) (b : List ℕ) (w₀ : Text) where
+  abbrev s : Text
+  s = fileOf (x .bundle) k
+
   -- the loop: the file is read up to a state
-  pub record Reads (d : Text) (t rows : List ℕ) (flags : List Bool) (x w : Text) (r : Reading) : Type 0 where
-    pub scratch : length x ≡ 8192
+  pub record Reads (d : Text) (t rows : List ℕ) (flags : List Bool) (y w : Text) (r : Reading) : Type 0 where
+    pub scratch : length y ≡ 8192
     pub buffer : length w ≡ length w₀
     pub text : length d ≡ length d₀
-    pub sound : r .more ≡ true → Sound n s d t rows flags b x w r
-    pub leads : (p : Texts) → HoldsProfile n h d₀ t₀ rows₀ flags₀ b p → Leads w₀ q₀ n s d t rows flags b w p r
+    pub file : r .more ≡ true → r .file ≡ k .reading .file
+    pub sound : (r .more ≡ false → r .fault ≡ 0) → Lent (k .n) s d t rows flags b w r
+    pub waits : r .more ≡ true → r .waiting .some ≡ true → Closed r
+    pub ends : r .fault ≡ 0 → r .more ≡ false → Closed r
+    pub leads : (a : Whole) (c : Around) → c .inc ≡ included (k .depth) x → c .file ≡ k .reading .file → (p : Texts) →
+        ReadTo a (k .n) s d₀ t₀ rows₀ flags₀ b w₀ p (textFrom c s (k .reading .at) (k .reading .line)) (k .reading) → Leads a c (k .n) s d t rows flags b w p r
 
-  -- what falls from step to step
-  unfoldable pub steps-left : Reading → ℕ
-  steps-left r = cond (r .more) (length s - r .at + 1) 0
+  -- what falls from turn to turn
+  unfoldable pub turns-left : Reading → ℕ
+  turns-left r = cond (r .more) (2 * (length s - r .at) + cond (r .waiting .some) 1 0 + 1) 0
 
-  pub reads-start : 1 ≤ n → n < 10 → NamesStart d₀ t₀ rows₀ flags₀ b h → length w₀ ≤ farthest → Low (q₀ .at) → (x : Text) → length x ≡ 8192 → (r : Reading) → Started h q₀ r →
-      Reads d₀ t₀ rows₀ flags₀ x w₀ r
-  reads-start a c v e l x z r u =
-      rw (u .is)
-      (record {
-        scratch = z;
+  pub reads-start : BeginsFile (x .bundle) d₀ t₀ rows₀ flags₀ b w₀ k → (y : Text) → length y ≡ 8192 → Reads d₀ t₀ rows₀ flags₀ y w₀ (k .reading)
+  reads-start v y e =
+      record {
+        scratch = e;
         buffer = refl;
         text = refl;
-        sound = λ y.
+        file = λ m. refl;
+        sound = λ z. v .sound;
+        waits = λ m z. absurd (no (sym (v .none) ∙ z));
+        ends = λ z m. absurd (no (sym m ∙ v .more));
+        leads = λ a c i j p u.
             record {
-              high = omega arith;
-              few = omega arith;
-              used = v .used;
-              room = v .room;
-              names = v .names;
-              tables = v .tables;
-              set =
-                  record {
-                    sized = u .sized;
-                    left = omega arith;
-                    right = omega arith;
-                    heading = λ f. absurd (f refl);
-                    among = λ f k i j. absurd (omega arith);
-                    all = record { all = λ f. absurd (no f) };
-                    some = a;
-                  };
-              kept = closed-kept noHeading (u .heading) s (replicate mostPlaces 0) (length-replicate {A = ℕ} mostPlaces 0);
-              fires =
-                  record {
-                    expands = record { placed = v .placed; few = omega arith; low = omega arith };
-                    some = a;
-                    digit = c;
-                    room = omega (arith, z);
-                    scratch = omega (arith, z);
-                    buf = e;
-                    low = l;
-                  };
+              refused = λ z. absurd (z (v .fault));
+              on = λ m. read-as a (k .n) s d₀ t₀ rows₀ flags₀ b w₀ p _ _ (k .reading) (sym (ahead-none c s (k .reading) (v .none))) u;
+              end = λ z m. absurd (no (sym m ∙ v .more));
             };
-        leads = λ p m.
-            record {
-              refused = λ f. absurd (f refl);
-              on = λ f.
-                  let i : fileFirings s (profileOf p) ≡ owed [] (profileOf p) (closedSet noHeading (u .heading)) (λ k. record { number = 0; text = [] }) (follow s 0 1) =
-                  firings-start s (profileOf p) ∙ (ap (firingsFrom [] (profileOf p)) (sym (first-lines s)) ∙ sym (owed-closed [] p noHeading (u .heading) _ (follow s 0 1))) in
-                  record {
-                    groups = [];
-                    rules = λ k. record { number = 0; text = [] };
-                    ready = m .ready;
-                    values = m .values;
-                    layouts = m .layouts;
-                    variants = m .variants;
-                    number = refl;
-                    words = λ k j g. absurd (omega arith);
-                    faults = lines-checked s ∙ ap (checkFrom [] noHeading) (sym (first-lines s));
-                    writes = record { long = refl; bytes = ap (runBuf w₀ q₀) i; places = ap (runCur q₀) i };
-                  };
-              end = λ f g. absurd (no (sym g));
-            };
-      })
+      }
 
-  module _ (d : Text) (t rows : List ℕ) (flags : List Bool) (x w : Text) (r : Reading) (v : Reads d t rows flags x w r) where
-    pub reads-end : r .more ≡ false → FileReadOf n s h d₀ t₀ rows₀ flags₀ b w₀ w q₀ (record { number = r .fault; place = r .line; cursors = r .cursors })
+  module _ (d : Text) (t rows : List ℕ) (flags : List Bool) (y w : Text) (r : Reading) (v : Reads d t rows flags y w r) where
+    pub reads-end : r .more ≡ false → FileWent x d₀ d t₀ t rows₀ rows flags₀ flags b w₀ w k r
     reads-end e =
         record {
-          long = v .buffer;
-          refused = λ p m z. v .leads p m .refused z .first;
-          accepted = λ p m z. let a = v .leads p m .end z e in (a .faults, a .bytes, a .places);
+          text = v .text;
+          buffer = v .buffer;
+          stops = e;
+          sound = λ z. v .sound (λ m. z);
+          ends = λ z. v .ends z e;
+          means = λ a c i j p u. let l = v .leads a c i j p u in record { refused = l .refused; end = λ z. l .end z e };
         }
 
-    module _ (on : r .more ≡ true) (d′ : Text) (t′ rows′ : List ℕ) (flags′ : List Bool) (x′ w′ : Text) (r′ : Reading)
-        (g : Stepped n s d d′ t t′ rows rows′ flags flags′ b x x′ w w′ r r′) where
-      pub reads-more : Reads d′ t′ rows′ flags′ x′ w′ r′
-      reads-more =
-          record {
-            scratch = g .scratch ∙ v .scratch;
-            buffer = g .buffer ∙ v .buffer;
-            text = g .text ∙ v .text;
-            sound = g .sound;
-            leads = λ p m. g .means w₀ q₀ p (v .leads p m .on on);
-          }
+    module _ (on : r .more ≡ true) where
+      pub reads-sound : Lent (k .n) s d t rows flags b w r
+      reads-sound = v .sound (λ m. absurd (no (sym m ∙ on)))
 
-      pub reads-less : steps-left r′ < steps-left r
-      unfolding steps-left
-      reads-less = go (r′ .more) refl
-        where
-          go : (c : Bool) → r′ .more ≡ c → cond (r′ .more) (length s - r′ .at + 1) 0 < cond (r .more) (length s - r .at + 1) 0
-          go true e = rw (e, on) (omega (arith, g .further e, g .sound e .high))
-          go false e = rw (e, on) (omega arith)
+      -- one step
+      module _ (idle : r .waiting .some ≡ false) (d′ : Text) (t′ rows′ : List ℕ) (flags′ : List Bool) (y′ w′ : Text) (r′ : Reading)
+          (g : Stepped (k .n) s d d′ t t′ rows rows′ flags flags′ b y y′ w w′ r r′) where
+        pub reads-more : Reads d′ t′ rows′ flags′ y′ w′ r′
+        reads-more =
+            record {
+              scratch = g .scratch ∙ v .scratch;
+              buffer = g .buffer ∙ v .buffer;
+              text = g .text ∙ v .text;
+              file = λ m. g .file ∙ v .file on;
+              sound = λ z u h. sound-scratch (k .n) s d′ t′ rows′ flags′ b y′ u w′ r′ (g .sound z) (h ∙ sym (g .scratch ∙ v .scratch));
+              waits = λ m z. g .waits z;
+              ends = g .ends;
+              leads = λ a c i j p u. 
+                  g .means a c (j ∙ sym (v .file on)) p (read-as a (k .n) s d t rows flags b w p _ _ r (ahead-none c s r idle) (v .leads a c i j p u .on on));
+            }
 
--- the same told by the first state
+        pub reads-less : turns-left r′ < turns-left r
+        unfolding turns-left
+        reads-less = go (r′ .more) refl (r′ .waiting .some)
+          where
+            go : (c : Bool) → r′ .more ≡ c → (q : Bool) → cond (r′ .more) (2 * (length s - r′ .at) + cond q 1 0 + 1) 0 < cond (r .more) (2 * (length s - r .at) + cond (r .waiting .some) 1 0 + 1) 0
+            go true e true = rw (e, on, idle) (omega (arith, g .further e, g .sound (λ m. absurd (no (sym m ∙ e))) .high))
+            go true e false = rw (e, on, idle) (omega (arith, g .further e, g .sound (λ m. absurd (no (sym m ∙ e))) .high))
+            go false e q = rw (e, on, idle) (omega arith)
 
-abbrev pub heldBy : Reading → Held
-heldBy r = record { used = r .used; count = r .count }
+      -- an include line
+      module _ (busy : r .waiting .some ≡ true) where
+        abbrev here : Walk
+        here = record { start = k .start; end = k .end; depth = k .depth; n = k .n; reading = r }
 
-pub reads-first : (n : ℕ) (s : Text) (h : Held) (d : Text) (t rows : List ℕ) (flags : List Bool) (b : List ℕ) (w : Text) (q : Cursors) → 1 ≤ n → n < 10 →
-    NamesStart d t rows flags b h → length w ≤ farthest → Low (q .at) → (x : Text) → length x ≡ 8192 → (r : Reading) → Started h q r →
-    Reads n s (heldBy r) d t rows flags b w (r .cursors) d t rows flags x w r
-reads-first n s h d t rows flags b w q a c v e l x z r u =
-    let g = reads-start n s h d t rows flags b w q a c v e l x z r u in
-    let i : heldBy r ≡ h = ap heldBy (u .is) in
-    let j : r .cursors ≡ q = ap (λ (y : Reading). y .cursors) (u .is) in
-    go g (heldBy r) (r .cursors) i j
-  where
-    go : Reads n s h d t rows flags b w q d t rows flags x w r → (h′ : Held) (q′ : Cursors) → h′ ≡ h → q′ ≡ q → Reads n s h′ d t rows flags b w q′ d t rows flags x w r
-    go g h′ q′ i j = rw (i, j) g
+        pub include-here : k .start ≤ k .end → k .end ≤ length (x .bundle) → AtInclude (x .bundle) d t rows flags b w here
+        include-here l h = record { low = l; high = h; sound = reads-sound; closed = v .waits on busy }
 
-pub reads-done : (n : ℕ) (s : Text) (h : Held) (d : Text) (t rows : List ℕ) (flags : List Bool) (b : List ℕ) (w w′ : Text) (q : Cursors) (r : Reading) (a : FileRead) → Started h q r →
-    FileReadOf n s (heldBy r) d t rows flags b w w′ (r .cursors) a → FileReadOf n s h d t rows flags b w w′ q a
-reads-done n s h d t rows flags b w w′ q r a u v =
-    let i : heldBy r ≡ h = ap heldBy (u .is) in
-    let j : r .cursors ≡ q = ap (λ (y : Reading). y .cursors) (u .is) in
-    rw (i, j) at v
+        module _ (d′ : Text) (t′ rows′ : List ℕ) (flags′ : List Bool) (w′ : Text) (r′ : Reading) (g : IncludeWent x d d′ t t′ rows rows′ flags flags′ b w w′ here r′) where
+          pub reads-included : Reads d′ t′ rows′ flags′ y w′ r′
+          reads-included =
+              record {
+                scratch = v .scratch;
+                buffer = g .buffer ∙ v .buffer;
+                text = g .text ∙ v .text;
+                file = λ m. g .file m ∙ v .file on;
+                sound = λ z. go z (r′ .more) refl;
+                waits = λ m z. absurd (g .none z m);
+                ends = λ z m. absurd (g .stops m z);
+                leads = λ a c i j p u. 
+                    g .means a c i (j ∙ sym (v .file on)) p (read-as a (k .n) s d t rows flags b w p _ _ r (ahead-some c s r busy) (v .leads a c i j p u .on on));
+              }
+            where
+              go : (r′ .more ≡ false → r′ .fault ≡ 0) → (c : Bool) → r′ .more ≡ c → Lent (k .n) s d′ t′ rows′ flags′ b w′ r′
+              go z true e = g .sound e
+              go z false e = absurd (g .stops e (z e))
+
+          pub included-less : turns-left r′ < turns-left r
+          unfolding turns-left
+          included-less = go (r′ .more) refl (r′ .waiting .some) refl
+            where
+              go : (c : Bool) → r′ .more ≡ c → (q : Bool) → r′ .waiting .some ≡ q →
+                  cond (r′ .more) (2 * (length s - r′ .at) + cond (r′ .waiting .some) 1 0 + 1) 0 < cond (r .more) (2 * (length s - r .at) + cond (r .waiting .some) 1 0 + 1) 0
+              go true e true f = absurd (g .none f e)
+              go true e false f = rw (e, on, busy, f, g .here e) (omega arith)
+              go false e q f = rw (e, on, busy) (omega arith)

@@ -9,7 +9,6 @@ use lib.Dec.{eqb, ltb, leb}
 use borrow.Author.Tests.{eqb-true, eqb-false, eq-eqb, ne-eqb, ltb-false, le-leb}
 use Rattle.text.specs.Limits.{mostGroups, longestWord}
 use Rattle.text.specs.Bytes.{Text, Words, rest, part, anyOf, allOf}
-use Rattle.text.specs.Lines.{Line}
 use Rattle.text.specs.Refusals.{firstRefusal}
 use Rattle.text.specs.Words.{badByte, tooLong, wordsFault}
 use Rattle.text.specs.Reading.{left, ahead, follow}
@@ -20,9 +19,9 @@ use Rattle.profile.specs.Places.{mostValues, InText, Placed, ValuesOf}
 use Rattle.rules.specs.declared.Present.{Present}
 use Rattle.rules.specs.declared.SetHeading.{SetHeading}
 use Rattle.rules.specs.Entries.{Entry, wrong, group, entryOf, headingEntry}
+use Rattle.rules.specs.Sections.{placeOf}
 use Rattle.rules.specs.Faults.{Group, Groups, defined}
 use Rattle.rules.specs.Checking.{lineOf, noHeading, checkFrom}
-use Rattle.rules.proofs.CheckSteps.{entry-any}
 use Rattle.firing.specs.Writing.{runBuf, runCur}
 use Rattle.firing.specs.Line.{Fires}
 use Rattle.names.specs.declared.GroupDefined.{GroupDefined}
@@ -37,14 +36,16 @@ use Rattle.judging.specs.Groups.{FirstWordAt, DollarWord, lineWords, membersIn,
 use Rattle.reading.specs.declared.OpenSet.{OpenSet}
 use Rattle.reading.specs.declared.Reading.{Reading}
 use Rattle.reading.specs.Order.{firingsFrom}
+use Rattle.reading.specs.Around.{Around, spotOf, textFrom, placedLine}
 use Rattle.reading.specs.Owed.{Kept, owed}
 use Rattle.reading.specs.Seeking.{SetOpen}
 use Rattle.reading.specs.Opening.{closedSet}
-use Rattle.reading.specs.States.{namesOf, Sound, ReadTo}
+use Rattle.reading.specs.States.{namesOf, Sound, Whole, ReadTo}
 use Rattle.reading.specs.Steps.{Stepped, Leads, stoppedAt}
 use Rattle.reading.specs.Heads.{AtHeading, AtGroup, SetRead, HeadRead, groupedAt}
 use Rattle.reading.proofs.HeadLines.{fires-group, faults-wrong, faults-twice, faults-group}
-use Rattle.reading.proofs.Stepping.{heading-first, owed-closed, closed-kept}
+use Rattle.reading.proofs.TextLines.{stays, stays-as, text-step}
+use Rattle.reading.proofs.Stepping.{heading-first, no-path, owed-closed, closed-kept}
 
 -- a group's words have no refusal of their own, so its name is short
 
@@ -76,7 +77,7 @@ placed-longer s w b v =
       place = λ j h. let p = v .place j h in record { low = p .low; high = omega (arith, p .high, length-append s w); short = p .short };
     }
 
-none-open : (n : ℕ) (o : OpenSet) → SetOpen n o → SetOpen n (closedSet noHeading (o .set))
+pub none-open : (n : ℕ) (o : OpenSet) → SetOpen n o → SetOpen n (closedSet noHeading (o .set))
 none-open n o v =
     record {
       sized = v .sized;
@@ -101,12 +102,23 @@ module _ (n : ℕ) (s : Text) (r : Reading) (x : FirstWord) (h : AtGroup s r x) 
   pub name-short : g .fault ≡ 0 → length name ≤ longestWord
   name-short z = group-short name (left s (x .end)) _ _ (v .right z .0)
 
-  entry : g .fault ≡ 0 → entryOf (lineOf (r .line) true (lineWords s x)) ≡ group (rest name) (membersIn s x)
-  entry z = entry-any (r .line) true (lineWords s x) ∙ v .right z .0
+  entry : g .fault ≡ 0 → entryOf (lineOf 0 true (lineWords s x)) ≡ group (rest name) (membersIn s x)
+  entry z = v .right z .0
+
+  line-stays : stays (entryOf (lineOf 0 true (lineWords s x))) ≡ true
+  unfolding stays
+  line-stays = go (eqb (g .fault) 0) refl
+    where
+      go : (b : Bool) → eqb (g .fault) 0 ≡ b → stays (entryOf (lineOf 0 true (lineWords s x))) ≡ true
+      go true e = stays-as _ _ (entry (eqb-true (g .fault) 0 e)) refl
+      go false e = stays-as _ _ (v .wrong (eqb-false (g .fault) 0 e)) refl
+
+  step : (c : Around) → textFrom c s (r .at) (r .line) ≡ placedLine (spotOf c (r .line)) true (lineWords s x) ∷ textFrom c s (g .next) (g .after)
+  step c = text-step c s (r .at) (r .line) true (lineWords s x) (g .next) (g .after) line line-stays
 
   refused-as : (k : ℕ) (d′ : Text) (t′ rows′ : List ℕ) (flags′ : List Bool) → (k ≡ 0 → ⊥) → length d′ ≡ length d →
-      ((gs : Groups) → ((p : Texts) → Ready p gs (take (r .used) d) t rows flags (r .count) → r .groups ≡ length gs →
-      firstRefusal (checkFrom (namesOf gs) (r .set .present) (follow s (r .at) (r .line))) ≡ record { number = k; place = r .line })) →
+      ((c : Around) (gs : Groups) → ((p : Texts) → Ready p gs (take (r .used) d) t rows flags (r .count) → r .groups ≡ length gs →
+      firstRefusal (checkFrom (namesOf gs) (r .set .present) (textFrom c s (r .at) (r .line))) ≡ record { number = k; place = placeOf (spotOf c (r .line)) })) →
       HeadRead n s d d′ t t′ rows rows′ flags flags′ r (stoppedAt r k (r .line))
   refused-as k d′ t′ rows′ flags′ z e f =
       record {
@@ -116,13 +128,16 @@ module _ (n : ℕ) (s : Text) (r : Reading) (x : FirstWord) (h : AtGroup s r x) 
               text = e;
               scratch = refl;
               buffer = refl;
-              sound = λ c. absurd (no c);
+              file = refl;
+              sound = λ c. absurd (z (c refl));
               further = λ c. absurd (no c);
-              means = λ w₀ q₀ p a.
+              waits = λ c. absurd (no c);
+              ends = λ c i. absurd (z c);
+              means = λ j c i p a.
                   record {
-                    refused = λ c. record { some = c; first = rw (a .faults) (f (a .groups) p (a .ready) (a .number)) };
-                    on = λ c. absurd (no c);
-                    end = λ c i. absurd (z c);
+                    refused = λ k. record { some = k; first = rw (a .faults) (f c (a .groups) p (a .ready) (a .number) ∙ rw i refl) };
+                    on = λ k. absurd (no k);
+                    end = λ k m. absurd (z k);
                   };
             };
       }
@@ -130,34 +145,35 @@ module _ (n : ℕ) (s : Text) (r : Reading) (x : FirstWord) (h : AtGroup s r x) 
   pub group-refused : (g .fault ≡ 0 → ⊥) → HeadRead n s d d t t rows rows flags flags r (stoppedAt r (g .fault) (r .line))
   group-refused z =
       refused-as (g .fault) d t rows flags z refl
-      (λ gs p a c. rw line (faults-wrong (namesOf gs) (r .set .present) (r .line) (lineWords s x) (follow s (g .next) (g .after)) (g .fault) z (entry-any (r .line) true (lineWords s x) ∙ v .wrong z)))
+      (λ c gs p a i. rw (step c) (faults-wrong (namesOf gs) (r .set .present) (spotOf c (r .line)) (lineWords s x) (textFrom c s (g .next) (g .after)) (g .fault) z (v .wrong z)))
 
   module _ (z : g .fault ≡ 0) where
-    ten : (gs : Groups) → defined gs (rest name) || leb mostGroups (length gs) ≡ true →
-        firstRefusal (checkFrom (namesOf gs) (r .set .present) (follow s (r .at) (r .line))) ≡ record { number = 10; place = r .line }
-    ten gs e = rw line (faults-twice gs (r .set .present) (r .line) (lineWords s x) (follow s (g .next) (g .after)) (rest name) (membersIn s x) (entry z) e)
+    ten : (c : Around) (gs : Groups) → defined gs (rest name) || leb mostGroups (length gs) ≡ true →
+        firstRefusal (checkFrom (namesOf gs) (r .set .present) (textFrom c s (r .at) (r .line))) ≡ record { number = 10; place = placeOf (spotOf c (r .line)) }
+    ten c gs e =
+        rw (step c) (faults-twice gs (r .set .present) (spotOf c (r .line)) (lineWords s x) (textFrom c s (g .next) (g .after)) (rest name) (membersIn s x) (entry z) e)
 
     pub group-full : mostGroups ≤ r .groups → HeadRead n s d d t t rows rows flags flags r (stoppedAt r 10 (r .line))
     group-full l =
         refused-as 10 d t rows flags (λ c. absurd (omega arith)) refl
-        (λ gs p a c. ten gs (or-right (defined gs (rest name)) (leb mostGroups (length gs)) (le-leb mostGroups (length gs) (omega arith))))
+        (λ c gs p a i. ten c gs (or-right (defined gs (rest name)) (leb mostGroups (length gs)) (le-leb mostGroups (length gs) (omega arith))))
 
     module _ (d′ : Text) (t′ rows′ : List ℕ) (flags′ : List Bool) (e : GroupDefined)
         (q : Defines name (g .row) d d′ (r .used) t t′ rows rows′ flags flags′ (r .count) (r .groups) e) where
       pub group-twice : e .refused ≡ true → HeadRead n s d d′ t t′ rows rows′ flags flags′ r (stoppedAt r 10 (r .line))
       group-twice f =
           refused-as 10 d′ t′ rows′ flags′ (λ c. absurd (omega arith)) (q .size)
-          (λ gs p a c. ten gs (sym (q .refusal p gs a c) ∙ f))
+          (λ c gs p a i. ten c gs (sym (q .refusal p gs a i) ∙ f))
 
       module _ (f : e .refused ≡ false) where
-        owes-all : (gs : Groups) (p : Texts) (kept : Kept) → owed gs (profileOf p) (r .set) kept (follow s (r .at) (r .line)) ≡
-            owed (record { name = rest name; members = membersIn s x } ∷ gs) (profileOf p) (closedSet noHeading (r .set .set)) kept (follow s (g .next) (g .after))
-        owes-all gs p kept =
-            ap (λ (y : OpenSet). owed gs (profileOf p) y kept (follow s (r .at) (r .line))) (h .heading .closed)
-            ∙ (owed-closed gs p (r .set .present) (r .set .set) kept (follow s (r .at) (r .line))
-            ∙ (ap (firingsFrom gs (profileOf p)) line
-            ∙ (fires-group gs (profileOf p) (r .line) (lineWords s x) (follow s (g .next) (g .after)) (rest name) (membersIn s x) (entry z)
-            ∙ sym (owed-closed (record { name = rest name; members = membersIn s x } ∷ gs) p noHeading (r .set .set) kept (follow s (g .next) (g .after))))))
+        owes-all : (c : Around) (gs : Groups) (p : Texts) (kept : Kept) → owed gs (profileOf p) (r .set) kept (textFrom c s (r .at) (r .line)) ≡
+            owed (record { name = rest name; members = membersIn s x } ∷ gs) (profileOf p) (closedSet noHeading (r .set .set)) kept (textFrom c s (g .next) (g .after))
+        owes-all c gs p kept =
+            ap (λ (y : OpenSet). owed gs (profileOf p) y kept (textFrom c s (r .at) (r .line))) (h .heading .closed)
+            ∙ (owed-closed gs p (r .set .present) (r .set .set) kept (textFrom c s (r .at) (r .line))
+            ∙ (ap (firingsFrom gs (profileOf p)) (step c)
+            ∙ (fires-group gs (profileOf p) (spotOf c (r .line)) (lineWords s x) (textFrom c s (g .next) (g .after)) (rest name) (membersIn s x) (entry z)
+            ∙ sym (owed-closed (record { name = rest name; members = membersIn s x } ∷ gs) p noHeading (r .set .set) kept (textFrom c s (g .next) (g .after))))))
 
         pub group-more : HeadRead n s d d′ t t′ rows rows′ flags flags′ r (groupedAt r (g .next) (g .after) (e .used))
         group-more =
@@ -168,10 +184,12 @@ module _ (n : ℕ) (s : Text) (r : Reading) (x : FirstWord) (h : AtGroup s r x) 
                     text = q .size;
                     scratch = refl;
                     buffer = refl;
+                    file = refl;
                     sound = λ c.
                         record {
                           high = v .high;
                           few = v .few;
+                          path = no-path s;
                           used = omega (arith, q .grown f, name-short z, q .few f, u .room, q .size);
                           room = omega (arith, q .grown f, name-short z, q .few f, u .room, q .size);
                           names = omega (arith, u .names);
@@ -190,11 +208,13 @@ module _ (n : ℕ) (s : Text) (r : Reading) (x : FirstWord) (h : AtGroup s r x) 
                               });
                         };
                     further = λ c. omega (arith, h .heading .inside, h .heading .opens .low, h .low, v .onwards, v .on);
-                    means = λ w₀ q₀ p a.
-                        let i = owes-all (a .groups) p (a .rules) in
+                    waits = λ c. absurd (no c);
+                    ends = λ c j. absurd (no (sym j));
+                    means = λ k c m p a.
+                        let i = owes-all c (a .groups) p (a .rules) in
                         record {
-                          refused = λ c. absurd (c refl);
-                          on = λ c.
+                          refused = λ y. absurd (y refl);
+                          on = λ y.
                               record {
                                 groups = record { name = rest name; members = membersIn s x } ∷ a .groups;
                                 rules = a .rules;
@@ -204,8 +224,8 @@ module _ (n : ℕ) (s : Text) (r : Reading) (x : FirstWord) (h : AtGroup s r x) 
                                 variants = a .variants;
                                 number = omega (arith, a .number);
                                 words = λ k j l. absurd (omega arith);
-                                faults = a .faults ∙ rw line
-                                    (faults-group (a .groups) (r .set .present) (r .line) (lineWords s x) (follow s (g .next) (g .after)) (rest name) (membersIn s x) (entry z)
+                                faults = a .faults ∙ rw (step c)
+                                    (faults-group (a .groups) (r .set .present) (spotOf c (r .line)) (lineWords s x) (textFrom c s (g .next) (g .after)) (rest name) (membersIn s x) (entry z)
                                     (sym (q .refusal p (a .groups) (a .ready) (a .number)) ∙ f));
                                 writes =
                                     record {
@@ -214,7 +234,7 @@ module _ (n : ℕ) (s : Text) (r : Reading) (x : FirstWord) (h : AtGroup s r x) 
                                       places = a .writes .places ∙ ap (runCur (r .cursors)) i;
                                     };
                               };
-                          end = λ c j. absurd (no (sym j));
+                          end = λ y j. absurd (no (sym j));
                         };
                   };
             }

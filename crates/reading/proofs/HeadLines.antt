@@ -10,7 +10,6 @@ use borrow.Author.Tests.{ne-eqb, eq-eqb}
 use Rattle.text.specs.declared.Refusal.{Refusal}
 use Rattle.text.specs.Limits.{mostGroups}
 use Rattle.text.specs.Bytes.{Text, Words, bytes, same, anyOf, allOf}
-use Rattle.text.specs.Lines.{Line}
 use Rattle.text.specs.Words.{wordsFault}
 use Rattle.text.specs.Refusals.{refusedIf, refusedAs, firstRefusal}
 use Rattle.text.proofs.Lists.{no}
@@ -18,8 +17,8 @@ use Rattle.profile.specs.Profile.{Profile}
 use Rattle.rules.specs.declared.Present.{Present}
 use Rattle.rules.specs.Words.{isEquals, hasDollar, ordinary, isGroupName}
 use Rattle.rules.specs.Headings.{Heading, goodItems}
-use Rattle.rules.specs.Entries.{Entry, ignored, wrong, group, set, rule, setShape, setEntry, groupEntry, headingEntry, entryOf}
-use Rattle.rules.specs.Sections.{applies}
+use Rattle.rules.specs.Entries.{Entry, ignored, wrong, group, set, rule, include, setShape, setEntry, groupEntry, includeEntry, headingEntry, entryOf}
+use Rattle.rules.specs.Sections.{Spot, placeOf, Placed, applies}
 use Rattle.rules.specs.Faults.{Group, Groups, defined}
 use Rattle.rules.specs.Checking.{lineOf, noHeading, presentOf, lineFault, presentAfter, namesAfter, checkFrom}
 use Rattle.rules.proofs.CheckSteps.{check-cons}
@@ -27,6 +26,7 @@ use Rattle.answers.specs.Matching.{members}
 use Rattle.answers.specs.Firings.{Firing, headFires}
 use Rattle.reading.specs.declared.OpenSet.{OpenSet}
 use Rattle.reading.specs.Order.{rulesFrom, firingsFrom}
+use Rattle.reading.specs.Around.{placedLine}
 use Rattle.reading.specs.Owed.{Kept, AllWanted, setOwes, owed, keptFires}
 use Rattle.reading.proofs.LineFires.{nextRules, rules-line, rules-none, nextFirings, firings-line, firings-none}
 use Rattle.reading.proofs.Owing.{owes-end}
@@ -39,6 +39,7 @@ isHead (wrong k) = true
 isHead (group g ms) = true
 isHead (set h) = true
 isHead (rule ws) = false
+isHead (include w) = true
 
 either : (t : Bool) (a b : Entry) → isHead a ≡ true → isHead b ≡ true → isHead (cond t a b) ≡ true
 either true a b h k = h
@@ -53,47 +54,53 @@ unfolding groupEntry isHead
 group-head n [] = refl
 group-head n (e ∷ ws) = either (isGroupName n && (isEquals e && allOf ordinary ws)) _ (wrong 6) refl refl
 
+include-head : (ws : Words) → isHead (includeEntry ws) ≡ true
+unfolding includeEntry isHead
+include-head [] = refl
+include-head (w ∷ []) = refl
+include-head (w ∷ v ∷ ws) = refl
+
 heading-head : (ws : Words) → isHead (headingEntry ws) ≡ true
 unfolding headingEntry isHead
 heading-head [] = refl
-heading-head (w ∷ ws) = either (hasDollar w) (groupEntry w ws) _ (group-head w ws) (either (same w (bytes "include")) (wrong 9) (setEntry (w ∷ ws)) refl (set-head (w ∷ ws)))
+heading-head (w ∷ ws) =
+    either (hasDollar w) (groupEntry w ws) _ (group-head w ws)
+    (either (same w (bytes "include")) (includeEntry ws) (setEntry (w ∷ ws)) (include-head ws) (set-head (w ∷ ws)))
 
 line-head : (n : ℕ) (ws : Words) → isHead (entryOf (lineOf n true ws)) ≡ true
 unfolding entryOf isHead
 line-head n ws = either (eqb (wordsFault ws) 0) (headingEntry ws) (wrong (wordsFault ws)) (heading-head ws) refl
 
-head-rules : (n : ℕ) (e : Entry) (ls : List Line) → isHead e ≡ true → nextRules n e ls ≡ []
+head-rules : (n : Spot) (e : Entry) (ls : List Placed) → isHead e ≡ true → nextRules n e ls ≡ []
 unfolding nextRules isHead
 head-rules n ignored ls h = absurd (no h)
 head-rules n (wrong k) ls h = refl
 head-rules n (group g ms) ls h = refl
 head-rules n (set g) ls h = refl
+head-rules n (include w) ls h = refl
 head-rules n (rule ws) ls h = absurd (no h)
 
 module _ (gs : Groups) (p : Profile) (o : OpenSet) (all : AllWanted o) (kept : Kept) where
-  -- the end of the file
-  pub owed-end : owed gs p o kept [] ≡ keptFires p o kept ++ []
+  -- no rule is next
+  pub owed-end : (ls : List Placed) → rulesFrom ls ≡ [] → owed gs p o kept ls ≡ keptFires p o kept ++ firingsFrom gs p ls
   unfolding owed
-  owed-end = rw (rules-none, firings-none gs p, owes-end (members gs) p o kept all) refl
+  owed-end ls e = rw (e, owes-end (members gs) p o kept all) refl
 
-  -- a heading
-  pub owed-close : (n : ℕ) (ws : Words) (ls : List Line) → owed gs p o kept (lineOf n true ws ∷ ls) ≡ keptFires p o kept ++ firingsFrom gs p (lineOf n true ws ∷ ls)
-  unfolding owed
-  owed-close n ws ls =
-      let e : rulesFrom (lineOf n true ws ∷ ls) ≡ [] = rules-line (lineOf n true ws) ls ∙ head-rules n (entryOf (lineOf n true ws)) ls (line-head n ws) in
-      rw (e, owes-end (members gs) p o kept all) refl
+-- a heading is next
+pub heading-rules : (n : Spot) (ws : Words) (ls : List Placed) → rulesFrom (placedLine n true ws ∷ ls) ≡ []
+heading-rules n ws ls = rules-line (placedLine n true ws) ls ∙ head-rules n (entryOf (lineOf 0 true ws)) ls (line-head 0 ws)
 
 -- what the heading fires, with what follows
 
-module _ (gs : Groups) (p : Profile) (n : ℕ) (ws : Words) (ls : List Line) where
-  pub fires-set : (h : Heading) → entryOf (lineOf n true ws) ≡ set h → firingsFrom gs p (lineOf n true ws ∷ ls) ≡ headFires gs p (applies h) (rulesFrom ls) ++ firingsFrom gs p ls
+module _ (gs : Groups) (p : Profile) (n : Spot) (ws : Words) (ls : List Placed) where
+  pub fires-set : (h : Heading) → entryOf (lineOf 0 true ws) ≡ set h → firingsFrom gs p (placedLine n true ws ∷ ls) ≡ headFires gs p (applies h) (rulesFrom ls) ++ firingsFrom gs p ls
   unfolding nextFirings
-  fires-set h e = firings-line gs p (lineOf n true ws) ls ∙ rw e refl
+  fires-set h e = firings-line gs p (placedLine n true ws) ls ∙ rw e refl
 
-  pub fires-group : (g : Text) (ms : Words) → entryOf (lineOf n true ws) ≡ group g ms →
-      firingsFrom gs p (lineOf n true ws ∷ ls) ≡ firingsFrom (record { name = g; members = ms } ∷ gs) p ls
+  pub fires-group : (g : Text) (ms : Words) → entryOf (lineOf 0 true ws) ≡ group g ms →
+      firingsFrom gs p (placedLine n true ws ∷ ls) ≡ firingsFrom (record { name = g; members = ms } ∷ gs) p ls
   unfolding nextFirings
-  fires-group g ms e = firings-line gs p (lineOf n true ws) ls ∙ rw e refl
+  fires-group g ms e = firings-line gs p (placedLine n true ws) ls ∙ rw e refl
 
 -- what is refused of it
 
@@ -114,34 +121,34 @@ names-length : (gs : Groups) → length (map (λ (g : Group). g .name) gs) ≡ l
 names-length [] = refl
 names-length (g ∷ gs) = ap (λ (i : ℕ). Prim.Native.Nat.suc i) (names-length gs)
 
-module _ (ns : List Text) (p : Present) (n : ℕ) (ws : Words) (ls : List Line) where
-  pub faults-wrong : (k : ℕ) → (k ≡ 0 → ⊥) → entryOf (lineOf n true ws) ≡ wrong k → firstRefusal (checkFrom ns p (lineOf n true ws ∷ ls)) ≡ record { number = k; place = n }
+module _ (ns : List Text) (p : Present) (n : Spot) (ws : Words) (ls : List Placed) where
+  pub faults-wrong : (k : ℕ) → (k ≡ 0 → ⊥) → entryOf (lineOf 0 true ws) ≡ wrong k → firstRefusal (checkFrom ns p (placedLine n true ws ∷ ls)) ≡ record { number = k; place = placeOf n }
   unfolding lineFault
-  faults-wrong k z e = rw (check-cons ns p (lineOf n true ws) ls, e) (refused-first k n _ z)
+  faults-wrong k z e = rw (check-cons ns p (placedLine n true ws) ls, e) (refused-first k (placeOf n) _ z)
 
-  pub faults-set : (h : Heading) → entryOf (lineOf n true ws) ≡ set h → checkFrom ns p (lineOf n true ws ∷ ls) ≡ checkFrom ns (presentOf h) ls
+  pub faults-set : (h : Heading) → entryOf (lineOf 0 true ws) ≡ set h → checkFrom ns p (placedLine n true ws ∷ ls) ≡ checkFrom ns (presentOf h) ls
   unfolding lineFault namesAfter presentAfter
-  faults-set h e = check-cons ns p (lineOf n true ws) ls ∙ rw e (refused-none 0 n _ refl)
+  faults-set h e = check-cons ns p (placedLine n true ws) ls ∙ rw e (refused-none 0 (placeOf n) _ refl)
 
-group-carries : (p : Present) (ls : List Line) (g : Text) (ms : Words) (ns : List Text) →
+group-carries : (p : Present) (ls : List Placed) (g : Text) (ms : Words) (ns : List Text) →
     checkFrom (namesAfter ns (group g ms)) (presentAfter p (group g ms)) ls ≡ checkFrom (g ∷ ns) noHeading ls
 unfolding namesAfter presentAfter
 group-carries p ls g ms ns = refl
 
-module _ (gs : Groups) (p : Present) (n : ℕ) (ws : Words) (ls : List Line) (g : Text) (ms : Words) (e : entryOf (lineOf n true ws) ≡ group g ms) where
+module _ (gs : Groups) (p : Present) (n : Spot) (ws : Words) (ls : List Placed) (g : Text) (ms : Words) (e : entryOf (lineOf 0 true ws) ≡ group g ms) where
   group-fault : lineFault (map (λ (g : Group). g .name) gs) p (group g ms) ≡ cond (defined gs g || leb mostGroups (length gs)) 10 0
   unfolding lineFault
   group-fault = rw (← defined-names gs g, names-length gs) refl
 
   -- refusal 10
   pub faults-twice : defined gs g || leb mostGroups (length gs) ≡ true →
-      firstRefusal (checkFrom (map (λ (g : Group). g .name) gs) p (lineOf n true ws ∷ ls)) ≡ record { number = 10; place = n }
+      firstRefusal (checkFrom (map (λ (g : Group). g .name) gs) p (placedLine n true ws ∷ ls)) ≡ record { number = 10; place = placeOf n }
   faults-twice t =
-      let f : lineFault (map (λ (g : Group). g .name) gs) p (entryOf (lineOf n true ws)) ≡ 10 = ap (lineFault (map (λ (g : Group). g .name) gs) p) e ∙ (group-fault ∙ rw t refl) in
-      rw (check-cons (map (λ (g : Group). g .name) gs) p (lineOf n true ws) ls) (rw f (refused-first 10 n _ (λ z. absurd (omega arith))))
+      let f : lineFault (map (λ (g : Group). g .name) gs) p (entryOf (lineOf 0 true ws)) ≡ 10 = ap (lineFault (map (λ (g : Group). g .name) gs) p) e ∙ (group-fault ∙ rw t refl) in
+      rw (check-cons (map (λ (g : Group). g .name) gs) p (placedLine n true ws) ls) (rw f (refused-first 10 (placeOf n) _ (λ z. absurd (omega arith))))
 
   pub faults-group : defined gs g || leb mostGroups (length gs) ≡ false →
-      checkFrom (map (λ (g : Group). g .name) gs) p (lineOf n true ws ∷ ls) ≡ checkFrom (g ∷ map (λ (g : Group). g .name) gs) noHeading ls
+      checkFrom (map (λ (g : Group). g .name) gs) p (placedLine n true ws ∷ ls) ≡ checkFrom (g ∷ map (λ (g : Group). g .name) gs) noHeading ls
   faults-group t =
-      let f : lineFault (map (λ (g : Group). g .name) gs) p (entryOf (lineOf n true ws)) ≡ 0 = ap (lineFault (map (λ (g : Group). g .name) gs) p) e ∙ (group-fault ∙ rw t refl) in
-      check-cons (map (λ (g : Group). g .name) gs) p (lineOf n true ws) ls ∙ (refused-none _ n _ f ∙ rw e (group-carries p ls g ms (map (λ (g : Group). g .name) gs)))
+      let f : lineFault (map (λ (g : Group). g .name) gs) p (entryOf (lineOf 0 true ws)) ≡ 0 = ap (lineFault (map (λ (g : Group). g .name) gs) p) e ∙ (group-fault ∙ rw t refl) in
+      check-cons (map (λ (g : Group). g .name) gs) p (placedLine n true ws) ls ∙ (refused-none _ (placeOf n) _ f ∙ rw e (group-carries p ls g ms (map (λ (g : Group). g .name) gs)))

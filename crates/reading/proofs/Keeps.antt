@@ -20,6 +20,7 @@ use Rattle.answers.specs.Firings.{Firing, ruleFires}
 use Rattle.bitsets.specs.Sets.{isIn}
 use Rattle.firing.specs.declared.Cursors.{Cursors}
 use Rattle.firing.specs.Writing.{runBuf, runCur, Low, FiredRule}
+use Rattle.rules.specs.Sections.{Spot}
 use Rattle.firing.specs.Line.{Fires, RightWords}
 use Rattle.firing.proofs.Going.{Going, going-start, going-more, going-end}
 use Rattle.rules.specs.Held.{headingBy, SetSized}
@@ -65,7 +66,7 @@ module _ (first m i : ℕ) (ps : List ℕ) where
 
 -- the right words of a rule with as many words as its heading asks
 
-first-components : (p : Profile) (l k : ℕ) (cs : List ℕ) (ws : Words) → ruleFires p l k cs ws ≡ ruleFires p l k (take (length ws) cs) ws
+first-components : (p : Profile) (l : Spot) (k : ℕ) (cs : List ℕ) (ws : Words) → ruleFires p l k cs ws ≡ ruleFires p l k (take (length ws) cs) ws
 unfolding ruleFires
 first-components p l k [] [] = refl
 first-components p l k [] (w ∷ ws) = refl
@@ -90,7 +91,7 @@ module _ (p : Profile) (o : OpenSet) (s : Text) (ps : List ℕ) (d₀ : Text) (q
   pub record KeptGoing (k : ℕ) (d : Text) (q : Cursors) : Type 0 where
     pub low : o .first ≤ k
     pub high : k ≤ o .first + o .count
-    pub going : (l : ℕ → ℕ) → Going d₀ q₀ (concatMap (placeFires p o s ps l) (layoutsIn o)) d q (concatMap (placeFires p o s ps l) (upFrom (o .first + o .count - k) k))
+    pub going : (l : ℕ → Spot) → Going d₀ q₀ (concatMap (placeFires p o s ps l) (layoutsIn o)) d q (concatMap (placeFires p o s ps l) (upFrom (o .first + o .count - k) k))
 
   pub kept-start : Low (q₀ .at) → KeptGoing (o .first) d₀ q₀
   kept-start h =
@@ -101,13 +102,13 @@ module _ (p : Profile) (o : OpenSet) (s : Text) (ps : List ℕ) (d₀ : Text) (q
     pub kept-end : o .first + o .count ≤ k → KeptFired p o s ps d₀ d q₀ q
     kept-end h = record { bytes = λ l. done l .0; places = λ l. done l .1 }
       where
-        done : (l : ℕ → ℕ) → (d ≡ runBuf d₀ q₀ (concatMap (placeFires p o s ps l) (layoutsIn o))) × (q ≡ runCur q₀ (concatMap (placeFires p o s ps l) (layoutsIn o)))
+        done : (l : ℕ → Spot) → (d ≡ runBuf d₀ q₀ (concatMap (placeFires p o s ps l) (layoutsIn o))) × (q ≡ runCur q₀ (concatMap (placeFires p o s ps l) (layoutsIn o)))
         done l =
             let e : o .first + o .count - k ≡ 0 = omega arith in
             going-end d₀ q₀ _ d q (rw (range-none (placeFires p o s ps l) (o .first + o .count - k) k e) at (v .going l))
 
     module _ (h : k < o .first + o .count) where
-      next : (l : ℕ → ℕ) → concatMap (placeFires p o s ps l) (upFrom (o .first + o .count - k) k) ≡
+      next : (l : ℕ → Spot) → concatMap (placeFires p o s ps l) (upFrom (o .first + o .count - k) k) ≡
           placeFires p o s ps l k ++ concatMap (placeFires p o s ps l) (upFrom (o .first + o .count - (k + 1)) (k + 1))
       next l = range-next (placeFires p o s ps l) (o .first + o .count) k h
 
@@ -140,7 +141,7 @@ module _ (p : Profile) (o : OpenSet) (s : Text) (ps : List ℕ) (d₀ : Text) (q
           count : length (drop 1 (left s (getD ps k 0))) ≡ o .set .right
           count = length-drop 1 (left s (getD ps k 0)) ∙ omega (arith, w .count)
 
-          told : (l : ℕ) → ruleFires p l k (o .set .components) (drop 1 (left s (getD ps k 0))) ≡ ruleFires p l k (headingBy (o .set) .components) (drop 1 (left s (getD ps k 0)))
+          told : (l : Spot) → ruleFires p l k (o .set .components) (drop 1 (left s (getD ps k 0))) ≡ ruleFires p l k (headingBy (o .set) .components) (drop 1 (left s (getD ps k 0)))
           told l =
               first-components p l k (o .set .components) (drop 1 (left s (getD ps k 0)))
               ∙ ap (λ (y : List ℕ). ruleFires p l k y (drop 1 (left s (getD ps k 0)))) (ap (λ (i : ℕ). take i (o .set .components)) count ∙ sym (components-are (o .set) sized))

@@ -7,9 +7,11 @@ pub mod Keeps
 pub mod Opens
 pub mod HeadLines
 pub mod KeptTold
+pub mod TextLines
 pub mod Stepping
 pub mod SetHeads
 pub mod GroupHeads
 pub mod Parts
+pub mod Includes
 pub mod FileReads
 pub mod ProfileReads

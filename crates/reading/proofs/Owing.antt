@@ -6,7 +6,6 @@ use mathlib.Core.Path.{_≡_, refl, sym, ap, _∙_}
 use mathlib.Core.List.{List, [], _∷_, _++_, append-assoc, append-nil}
 use mathlib.Core.Bool.{Bool, true, false, not, _&&_, cond}
 use Rattle.text.specs.Bytes.{Text, Words, anyOf, concatMap}
-use Rattle.text.specs.Lines.{Line}
 use Rattle.profile.specs.Profile.{Profile, layoutCount}
 use Rattle.rules.specs.Headings.{Heading, upFrom}
 use Rattle.rules.specs.Entries.{Entry, ignored, wrong, group, set, rule, entryOf}

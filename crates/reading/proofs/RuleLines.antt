@@ -9,14 +9,13 @@ use lib.Dec.{eqb}
 use borrow.Author.Tests.{eqb-true, eqb-false, eq-eqb, ne-eqb}
 use Rattle.text.specs.declared.Refusal.{Refusal}
 use Rattle.text.specs.Bytes.{Text, Words, anyOf}
-use Rattle.text.specs.Lines.{Line}
 use Rattle.text.specs.Words.{badByte, tooLong, wordsFault}
 use Rattle.text.specs.Refusals.{refusedIf, refusedAs}
 use Rattle.text.proofs.Lists.{no, and-both}
 use Rattle.profile.specs.Profile.{Profile}
 use Rattle.rules.specs.Headings.{Heading}
 use Rattle.rules.specs.Entries.{Entry, ignored, wrong, rule, ruleEntry, entryOf}
-use Rattle.rules.specs.Sections.{Rule}
+use Rattle.rules.specs.Sections.{Spot, placeOf, Placed, Rule}
 use Rattle.rules.specs.Faults.{Groups, ruleShape, shapeFault}
 use Rattle.rules.specs.declared.Present.{Present}
 use Rattle.rules.specs.Checking.{lineOf, presentOf, presentFault, lineFault, presentAfter, namesAfter, checkFrom}
@@ -28,6 +27,7 @@ use Rattle.bitsets.specs.Sets.{isIn}
 use Rattle.rules.specs.Held.{headingBy}
 use Rattle.reading.specs.declared.OpenSet.{OpenSet}
 use Rattle.reading.specs.Order.{rulesFrom, firingsFrom}
+use Rattle.reading.specs.Around.{placedLine}
 use Rattle.reading.specs.Owed.{Kept, AllWanted, wanting, keeping, setOwes, owed, keptFires}
 use Rattle.reading.proofs.LineFires.{nextRules, rules-line, nextFirings, firings-line}
 use Rattle.reading.proofs.Owing.{owes-miss, owes-keep, owes-fire}
@@ -97,30 +97,30 @@ unfolding ruleEntry
 rule-is [] e = absurd (e refl)
 rule-is (w ∷ ws) e = refl
 
-next-plain : (gs : Groups) (p : Profile) (ls : List Line) (us : Words) → nextFirings gs p (ruleEntry us) ls ≡ firingsFrom gs p ls
+next-plain : (gs : Groups) (p : Profile) (ls : List Placed) (us : Words) → nextFirings gs p (ruleEntry us) ls ≡ firingsFrom gs p ls
 unfolding nextFirings ruleEntry
 next-plain gs p ls [] = refl
 next-plain gs p ls (u ∷ us) = refl
 
 -- a line of which nothing is refused under the heading p
-module _ (p : Present) (n : ℕ) (ws : Words) (fine : (ns : List Text) → lineFault ns p (entryOf (lineOf n false ws)) ≡ 0) where
+module _ (p : Present) (n : Spot) (ws : Words) (fine : (ns : List Text) → lineFault ns p (entryOf (lineOf 0 false ws)) ≡ 0) where
   no-fault : wordsFault ws ≡ 0
   no-fault = go (eqb (wordsFault ws) 0) refl
     where
       go : (t : Bool) → eqb (wordsFault ws) 0 ≡ t → wordsFault ws ≡ 0
       go true q = eqb-true _ 0 q
-      go false q = sym (fault-wrong [] p (wordsFault ws)) ∙ (rw (entry-faulty n ws (eqb-false _ 0 q)) at (fine []))
+      go false q = sym (fault-wrong [] p (wordsFault ws)) ∙ (rw (entry-faulty 0 ws (eqb-false _ 0 q)) at (fine []))
 
-  pub line-is : entryOf (lineOf n false ws) ≡ ruleEntry ws
-  line-is = entry-clean n ws no-fault
+  pub line-is : entryOf (lineOf 0 false ws) ≡ ruleEntry ws
+  line-is = entry-clean 0 ws no-fault
 
   pub line-short : anyOf tooLong ws ≡ false
   line-short = faultless ws no-fault
 
-  pub line-faults : (ns : List Text) (ls : List Line) → checkFrom ns p (lineOf n false ws ∷ ls) ≡ checkFrom ns p ls
+  pub line-faults : (ns : List Text) (ls : List Placed) → checkFrom ns p (placedLine n false ws ∷ ls) ≡ checkFrom ns p ls
   line-faults ns ls =
-      check-cons ns p (lineOf n false ws) ls
-      ∙ (refused-none (lineFault ns p (entryOf (lineOf n false ws))) n _ (fine ns)
+      check-cons ns p (placedLine n false ws) ls
+      ∙ (refused-none (lineFault ns p (entryOf (lineOf 0 false ws))) (placeOf n) _ (fine ns)
       ∙ rw (line-is, carry-rule ns p ws .0, carry-rule ns p ws .1) refl)
 
   pub line-count : (h : Heading) → p ≡ presentOf h → (length ws ≡ 0 → ⊥) → length ws ≡ length (h .columns) + 1 + length (h .components)
@@ -129,42 +129,42 @@ module _ (p : Present) (n : ℕ) (ws : Words) (fine : (ns : List Text) → lineF
       let b : presentFault (presentOf h) ws ≡ 0 = rw e at a in
       shape-fine _ _ _ ws (sym (present-shape h ws) ∙ b)
 
-  module _ (gs : Groups) (pr : Profile) (o : OpenSet) (kept : Kept) (ls : List Line) where
-    next-fires : firingsFrom gs pr (lineOf n false ws ∷ ls) ≡ firingsFrom gs pr ls
-    next-fires = firings-line gs pr (lineOf n false ws) ls ∙ rw line-is (next-plain gs pr ls ws)
+  module _ (gs : Groups) (pr : Profile) (o : OpenSet) (kept : Kept) (ls : List Placed) where
+    next-fires : firingsFrom gs pr (placedLine n false ws ∷ ls) ≡ firingsFrom gs pr ls
+    next-fires = firings-line gs pr (placedLine n false ws) ls ∙ rw line-is (next-plain gs pr ls ws)
 
-    blank-rules : length ws ≡ 0 → rulesFrom (lineOf n false ws ∷ ls) ≡ rulesFrom ls
+    blank-rules : length ws ≡ 0 → rulesFrom (placedLine n false ws ∷ ls) ≡ rulesFrom ls
     unfolding nextRules
-    blank-rules e = rules-line (lineOf n false ws) ls ∙ rw (line-is, blank-is ws e) refl
+    blank-rules e = rules-line (placedLine n false ws) ls ∙ rw (line-is, blank-is ws e) refl
 
-    more-rules : (length ws ≡ 0 → ⊥) → rulesFrom (lineOf n false ws ∷ ls) ≡ record { number = n; text = ws } ∷ rulesFrom ls
+    more-rules : (length ws ≡ 0 → ⊥) → rulesFrom (placedLine n false ws ∷ ls) ≡ record { spot = n; text = ws } ∷ rulesFrom ls
     unfolding nextRules
-    more-rules e = rules-line (lineOf n false ws) ls ∙ rw (line-is, rule-is ws e) refl
+    more-rules e = rules-line (placedLine n false ws) ls ∙ rw (line-is, rule-is ws e) refl
 
     -- no rule
-    pub owed-blank : length ws ≡ 0 → owed gs pr o kept (lineOf n false ws ∷ ls) ≡ owed gs pr o kept ls
+    pub owed-blank : length ws ≡ 0 → owed gs pr o kept (placedLine n false ws ∷ ls) ≡ owed gs pr o kept ls
     unfolding owed
     owed-blank e = rw (blank-rules e, next-fires) refl
 
     module _ (some : length ws ≡ 0 → ⊥) (all : AllWanted o) where
       -- a rule that matches at no layout that wants one
       pub owed-miss : ((k : ℕ) → o .first ≤ k → k < o .first + o .count → (isIn k (o .wanted) && ruleMatches (members gs) pr k (headingBy (o .set) .columns) ws) ≡ false) →
-          owed gs pr o kept (lineOf n false ws ∷ ls) ≡ owed gs pr o kept ls
+          owed gs pr o kept (placedLine n false ws ∷ ls) ≡ owed gs pr o kept ls
       unfolding owed
-      owed-miss m = rw (more-rules some, next-fires, owes-miss (members gs) pr o kept (record { number = n; text = ws }) (rulesFrom ls) all m) refl
+      owed-miss m = rw (more-rules some, next-fires, owes-miss (members gs) pr o kept (record { spot = n; text = ws }) (rulesFrom ls) all m) refl
 
       module _ (m w : ℕ) (is : (k : ℕ) → o .first ≤ k → k < o .first + o .count →
           isIn k m ≡ (isIn k (o .wanted) && ruleMatches (members gs) pr k (headingBy (o .set) .columns) ws))
           (out : (k : ℕ) → isIn k w ≡ (isIn k (o .wanted) && not (isIn k m))) where
         -- the first matching rule of a layout is kept
-        pub owed-keep : o .every ≡ false → owed gs pr o kept (lineOf n false ws ∷ ls) ≡ owed gs pr (wanting o w) (keeping m (record { number = n; text = ws }) kept) ls
+        pub owed-keep : o .every ≡ false → owed gs pr o kept (placedLine n false ws ∷ ls) ≡ owed gs pr (wanting o w) (keeping m (record { spot = n; text = ws }) kept) ls
         unfolding owed
-        owed-keep e = rw (more-rules some, next-fires, owes-keep (members gs) pr o kept (record { number = n; text = ws }) (rulesFrom ls) m w is out e) refl
+        owed-keep e = rw (more-rules some, next-fires, owes-keep (members gs) pr o kept (record { spot = n; text = ws }) (rulesFrom ls) m w is out e) refl
 
         -- each matching rule fires
-        pub owed-fire : o .every ≡ true → owed gs pr o kept (lineOf n false ws ∷ ls) ≡
-            keptFires pr (wanting o w) (keeping m (record { number = n; text = ws }) kept) ++ owed gs pr o kept ls
+        pub owed-fire : o .every ≡ true → owed gs pr o kept (placedLine n false ws ∷ ls) ≡
+            keptFires pr (wanting o w) (keeping m (record { spot = n; text = ws }) kept) ++ owed gs pr o kept ls
         unfolding owed
         owed-fire e =
-            rw (more-rules some, next-fires, owes-fire (members gs) pr o kept (record { number = n; text = ws }) (rulesFrom ls) m w is out e all)
-            (append-assoc (keptFires pr (wanting o w) (keeping m (record { number = n; text = ws }) kept)) (setOwes (members gs) pr o kept (rulesFrom ls)) (firingsFrom gs pr ls))
+            rw (more-rules some, next-fires, owes-fire (members gs) pr o kept (record { spot = n; text = ws }) (rulesFrom ls) m w is out e all)
+            (append-assoc (keptFires pr (wanting o w) (keeping m (record { spot = n; text = ws }) kept)) (setOwes (members gs) pr o kept (rulesFrom ls)) (firingsFrom gs pr ls))

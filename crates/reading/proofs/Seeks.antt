@@ -13,13 +13,15 @@ use Rattle.text.specs.Bytes.{Text, Words, anyOf}
 use Rattle.text.specs.Words.{tooLong}
 use Rattle.text.specs.Reading.{left, ahead, follow, Opens}
 use Rattle.text.proofs.Lists.{no, or-right, any-drop}
-use Rattle.text.proofs.Readers.{no-lines}
 use Rattle.profile.specs.Profile.{Texts, Profile, profileOf, layoutCount}
 use Rattle.rules.specs.declared.Column.{Column}
 use Rattle.rules.specs.declared.SetHeading.{SetHeading}
 use Rattle.rules.specs.Headings.{Heading}
 use Rattle.rules.specs.Faults.{Groups, rightWords}
-use Rattle.rules.specs.Checking.{lineOf, presentOf, checkFrom}
+use Rattle.rules.specs.Entries.{entryOf}
+use Rattle.rules.specs.Sections.{placeOf}
+use Rattle.rules.specs.Checking.{lineOf, presentOf, lineFault, checkFrom}
+use Rattle.rules.proofs.CheckSteps.{refused-first, check-cons}
 use Rattle.answers.specs.Layouts.{perLayout}
 use Rattle.answers.specs.Matching.{members, columnMatches, ruleMatches}
 use Rattle.bitsets.specs.Sets.{isIn}
@@ -37,9 +39,11 @@ use Rattle.reading.specs.declared.OpenSet.{OpenSet}
 use Rattle.reading.specs.declared.LeftWords.{LeftWords}
 use Rattle.reading.specs.declared.Sought.{Sought}
 use Rattle.reading.specs.declared.Sought.the-variants as sought
+use Rattle.reading.specs.Around.{Around, spotOf, textFrom, placedLine}
 use Rattle.reading.specs.Owed.{Kept, owed}
 use Rattle.reading.specs.Left.{asked, Answers, AskedAt, LeftHeld}
 use Rattle.reading.specs.Seeking.{SetOpen, PlaceAt, PassedOver, RuleFound, SoughtAt, SoughtOf, Seeks}
+use Rattle.reading.proofs.TextLines.{plain-stays, behind, text-line, text-step, text-end}
 use Rattle.reading.proofs.RuleLines.{line-short, line-faults, line-count, owed-blank, owed-miss, owed-keep, owed-fire}
 
 -- the columns of a heading can be asked at a layout
@@ -132,7 +136,7 @@ module _ (d : Text) (t rows : List ℕ) (flags : List Bool) (count : ℕ) (o : O
       pub over : (x : Texts) (gs : Groups) → Ready x gs d t rows flags count → SetOpen (layoutCount (profileOf x)) o → PassedOver x gs o s at n i m
 
     pub seek-start : at ≤ length s → n ≤ at + 1 → Seeking at n
-    seek-start h f = record { low = omega arith; high = h; few = f; over = λ x gs r u. record { faults = λ ns. refl; owes = λ kept. refl } }
+    seek-start h f = record { low = omega arith; high = h; few = f; over = λ x gs r u. record { faults = λ c ns. refl; owes = λ c kept. refl } }
 
     answers-of : (x : Texts) (gs : Groups) → Ready x gs d t rows flags count → SetOpen (layoutCount (profileOf x)) o →
         Answers (asks gs (profileOf x)) (layoutCount (profileOf x)) d t rows flags count
@@ -140,29 +144,41 @@ module _ (d : Text) (t rows : List ℕ) (flags : List Bool) (count : ℕ) (o : O
 
     module _ (i m : ℕ) (v : Seeking i m) where
       pub seek-end : length s ≤ i → Seeks d t rows flags count o s at n sought.End
-      unfolding checkFrom
       seek-end h =
           record {
             place = Prim.tt {0};
             means = λ x gs r u.
                 let p = v .over x gs r u in
-                let e = no-lines s i m h in
-                (λ ns. p .faults ns ∙ rw e refl, λ kept. p .owes kept ∙ rw e refl);
+                (λ c ns. p .faults c ns ∙ rw (text-end c s i m h) refl, λ c kept. p .owes c kept ∙ rw (text-end c s i m h) refl);
           }
 
       pub seek-heading : (from l : ℕ) → i < length s → Opens s i m true from l → Seeks d t rows flags count o s at n (sought.Heading i m from l)
       seek-heading from l h w = record { place = (v .low, h, v .few, w); means = v .over }
 
       pub seek-refused : (k : ℕ) → LineRefused s i m (o .present) k → Seeks d t rows flags count o s at n (sought.Refused k m)
-      seek-refused k w = record { place = w .some; means = λ x gs r u ns. rw (v .over x gs r u .faults ns) (w .first ns) }
+      seek-refused k w =
+          record {
+            place = w .some;
+            means = λ x gs r u c ns.
+                rw (
+                  v .over x gs r u .faults c ns,
+                  text-line c s i m false (w .words) (w .more) (w .read) (plain-stays (w .words)),
+                  check-cons ns (o .present) (placedLine (spotOf c m) false (w .words)) (behind c (w .more)),
+                  w .fault ns,
+                )
+                (refused-first k (placeOf (spotOf c m)) _ (w .some));
+          }
 
       -- a line that is no heading, and is not refused
       module _ (sized : SetSized (o .set)) (head : (o .wanted ≡ 0 → ⊥) → o .present ≡ presentOf (headingBy (o .set)))
           (from l next n′ : ℕ) (w : RuleLineRead s i m (o .present) from l next n′) (c : ℕ) (y : LeftWords) (g : LeftGoing from c y) where
         count-is : (o .wanted ≡ 0 → ⊥) → (length (left s from) ≡ 0 → ⊥) → length (left s from) ≡ o .set .left + 1 + o .set .right
         count-is z e =
-            let b = line-count (o .present) m (left s from) (w .fault) (headingBy (o .set)) (head z) e in
+            let b = line-count (o .present) (record { file = 0; line = m }) (left s from) (w .fault) (headingBy (o .set)) (head z) e in
             rw (columns-length (o .set) sized, components-length (o .set) sized) at b
+
+        step : (f : Around) → textFrom f s i m ≡ placedLine (spotOf f m) false (left s from) ∷ textFrom f s next n′
+        step f = text-step f s i m false (left s from) next n′ (w .read) (plain-stays (left s from))
 
         enough-of : (o .wanted ≡ 0 → ⊥) → (length (left s from) ≡ 0 → ⊥) → length (H .columns) ≤ length (left s from)
         enough-of z e = let a = columns-length (o .set) sized in omega (arith, count-is z e, a)
@@ -176,23 +192,23 @@ module _ (d : Text) (t rows : List ℕ) (flags : List Bool) (count : ℕ) (o : O
               over = λ x gs r u.
                   let p = v .over x gs r u in
                   record {
-                    faults = λ ns. p .faults ns ∙ rw (w .read) (line-faults (o .present) m (left s from) (w .fault) ns (follow s next n′));
-                    owes = λ kept. p .owes kept ∙ rw (w .read) (passed x gs r u kept (eqb (length (left s from)) 0) refl (eqb (o .wanted) 0) refl);
+                    faults = λ f ns. p .faults f ns ∙ rw (step f) (line-faults (o .present) (spotOf f m) (left s from) (w .fault) ns (textFrom f s next n′));
+                    owes = λ f kept. p .owes f kept ∙ rw (step f) (passed x gs r u f kept (eqb (length (left s from)) 0) refl (eqb (o .wanted) 0) refl);
                   };
             }
           where
-            passed : (x : Texts) (gs : Groups) → Ready x gs d t rows flags count → SetOpen (layoutCount (profileOf x)) o → (kept : Kept) →
+            passed : (x : Texts) (gs : Groups) → Ready x gs d t rows flags count → SetOpen (layoutCount (profileOf x)) o → (f : Around) (kept : Kept) →
                 (a : Bool) → eqb (length (left s from)) 0 ≡ a → (b : Bool) → eqb (o .wanted) 0 ≡ b →
-                owed gs (profileOf x) o kept (lineOf m false (left s from) ∷ follow s next n′) ≡ owed gs (profileOf x) o kept (follow s next n′)
-            passed x gs r u kept true z b f =
-                owed-blank (o .present) m (left s from) (w .fault) gs (profileOf x) o kept (follow s next n′) (eqb-true (length (left s from)) 0 z)
-            passed x gs r u kept false z true f =
-                owed-miss (o .present) m (left s from) (w .fault) gs (profileOf x) o kept (follow s next n′) (eqb-false (length (left s from)) 0 z) (u .all)
-                (λ k a b. rw (eqb-true (o .wanted) 0 f, in-none k) refl)
-            passed x gs r u kept false z false f =
-                owed-miss (o .present) m (left s from) (w .fault) gs (profileOf x) o kept (follow s next n′) (eqb-false (length (left s from)) 0 z) (u .all)
+                owed gs (profileOf x) o kept (placedLine (spotOf f m) false (left s from) ∷ textFrom f s next n′) ≡ owed gs (profileOf x) o kept (textFrom f s next n′)
+            passed x gs r u f kept true z b q =
+                owed-blank (o .present) (spotOf f m) (left s from) (w .fault) gs (profileOf x) o kept (textFrom f s next n′) (eqb-true (length (left s from)) 0 z)
+            passed x gs r u f kept false z true q =
+                owed-miss (o .present) (spotOf f m) (left s from) (w .fault) gs (profileOf x) o kept (textFrom f s next n′) (eqb-false (length (left s from)) 0 z) (u .all)
+                (λ k a b. rw (eqb-true (o .wanted) 0 q, in-none k) refl)
+            passed x gs r u f kept false z false q =
+                owed-miss (o .present) (spotOf f m) (left s from) (w .fault) gs (profileOf x) o kept (textFrom f s next n′) (eqb-false (length (left s from)) 0 z) (u .all)
                 (λ k a b.
-                rw (← asked-rule gs (profileOf x) k (H .columns) (left s from) (enough-of (eqb-false (o .wanted) 0 f) (eqb-false (length (left s from)) 0 z)))
+                rw (← asked-rule gs (profileOf x) k (H .columns) (left s from) (enough-of (eqb-false (o .wanted) 0 q) (eqb-false (length (left s from)) 0 z)))
                 (left-miss sized from c y g e (asks gs (profileOf x)) (layoutCount (profileOf x)) (answers-of x gs r u) k (λ j. u .among j k a b)))
 
         module _ (done : o .set .left ≤ c) (c-high : c ≤ o .set .left) (hit : y .layouts ≡ 0 → ⊥) where
@@ -222,7 +238,7 @@ module _ (d : Text) (t rows : List ℕ) (flags : List Bool) (count : ℕ) (o : O
                   record {
                     high = g .high;
                     count = ap length behind-is ∙ (length-drop (o .set .left) (left s from) ∙ omega (arith, count-is wanted nonblank));
-                    short = rw behind-is (any-drop tooLong (o .set .left) (left s from) (line-short (o .present) m (left s from) (w .fault)));
+                    short = rw behind-is (any-drop tooLong (o .set .left) (left s from) (line-short (o .present) (record { file = 0; line = m }) (left s from) (w .fault)));
                   },
                   wanted,
                   omega (arith, v .low, w .on),
@@ -232,13 +248,13 @@ module _ (d : Text) (t rows : List ℕ) (flags : List Bool) (count : ℕ) (o : O
                 means = λ x gs r u.
                     let p = v .over x gs r u in
                     record {
-                      rule = record { number = m; text = left s from };
-                      words = rw (behind-is, drop-drop 1 (o .set .left) (left s from), columns-length (o .set) sized) refl;
-                      faults = λ ns. p .faults ns ∙ rw (w .read) (line-faults (o .present) m (left s from) (w .fault) ns (follow s next n′));
-                      keeps = λ e kept q out. p .owes kept ∙ rw (w .read)
-                          (owed-keep (o .present) m (left s from) (w .fault) gs (profileOf x) o kept (follow s next n′) nonblank (u .all) (y .layouts) q (matched x gs r u) out e);
-                      fires = λ e kept q out. p .owes kept ∙ rw (w .read)
-                          (owed-fire (o .present) m (left s from) (w .fault) gs (profileOf x) o kept (follow s next n′) nonblank (u .all) (y .layouts) q (matched x gs r u) out e);
+                      rule = λ f. record { spot = spotOf f m; text = left s from };
+                      words = λ f. rw (behind-is, drop-drop 1 (o .set .left) (left s from), columns-length (o .set) sized) refl;
+                      faults = λ f ns. p .faults f ns ∙ rw (step f) (line-faults (o .present) (spotOf f m) (left s from) (w .fault) ns (textFrom f s next n′));
+                      keeps = λ f e kept q out. p .owes f kept ∙ rw (step f)
+                          (owed-keep (o .present) (spotOf f m) (left s from) (w .fault) gs (profileOf x) o kept (textFrom f s next n′) nonblank (u .all) (y .layouts) q (matched x gs r u) out e);
+                      fires = λ f e kept q out. p .owes f kept ∙ rw (step f)
+                          (owed-fire (o .present) (spotOf f m) (left s from) (w .fault) gs (profileOf x) o kept (textFrom f s next n′) nonblank (u .all) (y .layouts) q (matched x gs r u) out e);
                     };
               }
 

@@ -1,4 +1,4 @@
--- A file read for a profile that is compiled into the names.
+-- Before the first line: a profile that is compiled into the names.
 use Prim.Native.Nat.{ℕ, _+_, _*_, _≤_}
 use mathlib.Core.Path.{_≡_}
 use mathlib.Core.List.{List, []}
@@ -6,29 +6,26 @@ use mathlib.Core.Bool.{Bool, true, false}
 use lib.ListN.{length, take, replicate}
 use Rattle.text.specs.Limits.{mostGroups, longestWord}
 use Rattle.text.specs.Bytes.{Text}
-use Rattle.text.specs.Refusals.{firstRefusal}
 use Rattle.profile.specs.Profile.{Texts, profileOf, layoutCount}
 use Rattle.profile.specs.Places.{Placed, ValuesOf}
 use Rattle.rules.specs.declared.SetHeading.{SetHeading}
-use Rattle.rules.specs.Faults.{lineFaults}
 use Rattle.rules.specs.Checking.{noHeading}
 use Rattle.firing.specs.declared.Cursors.{Cursors}
-use Rattle.firing.specs.Writing.{runBuf, runCur}
 use Rattle.rules.specs.Held.{SetSized}
 use Rattle.names.specs.declared.Held.{Held}
 use Rattle.names.specs.Compiled.{Tables}
 use Rattle.names.specs.Ready.{Ready}
-use Rattle.answers.specs.Firings.{fileFirings}
 use Rattle.reading.specs.declared.Reading.{Reading}
-use Rattle.reading.specs.declared.FileRead.{FileRead}
 use Rattle.reading.specs.Opening.{closedSet}
 use Rattle.reading.specs.Keeping.{mostPlaces}
+use Rattle.reading.specs.States.{nothing}
 
 -- before the first line: no group but those of the names so far, and no set
 pub record Started (h : Held) (q : Cursors) (r : Reading) : Type 0 where
   pub heading : SetHeading
   pub sized : SetSized heading
   pub is : r ≡ record {
+    file = 1;
     at = 0;
     line = 1;
     used = h .used;
@@ -37,6 +34,7 @@ pub record Started (h : Held) (q : Cursors) (r : Reading) : Type 0 where
     set = closedSet noHeading heading;
     places = replicate mostPlaces 0;
     cursors = q;
+    waiting = nothing;
     fault = 0;
     more = true;
   }
@@ -55,10 +53,3 @@ pub record HoldsProfile (n : ℕ) (h : Held) (d : Text) (t rows : List ℕ) (fla
   pub values : ValuesOf x (take (h .used) d) b
   pub layouts : n ≡ layoutCount (profileOf x)
   pub variants : length (profileOf x .variants) ≤ n
-
--- For every profile that the names hold: the first refusal of the lines; and where there is none, all that fires is written.
-pub record FileReadOf (n : ℕ) (s : Text) (h : Held) (d : Text) (t rows : List ℕ) (flags : List Bool) (b : List ℕ) (w w′ : Text) (q : Cursors) (r : FileRead) : Type 0 where
-  pub long : length w′ ≡ length w
-  pub refused : (x : Texts) → HoldsProfile n h d t rows flags b x → (r .number ≡ 0 → ⊥) → firstRefusal (lineFaults s) ≡ record { number = r .number; place = r .place }
-  pub accepted : (x : Texts) → HoldsProfile n h d t rows flags b x → r .number ≡ 0 →
-      (lineFaults s ≡ []) × (w′ ≡ runBuf w q (fileFirings s (profileOf x))) × (r .cursors ≡ runCur q (fileFirings s (profileOf x)))

@@ -13,7 +13,7 @@ use Rattle.judging.specs.declared.FirstWord.{FirstWord}
 use Rattle.judging.specs.Groups.{lineWords}
 use Rattle.reading.specs.declared.Reading.{Reading}
 use Rattle.reading.specs.Opening.{closedSet}
-use Rattle.reading.specs.States.{Sound}
+use Rattle.reading.specs.States.{nothing, Sound}
 use Rattle.reading.specs.Steps.{Stepped}
 
 -- the next line is a heading, whose words begin at `from`, and no set is being read
@@ -51,6 +51,7 @@ pub record HeadRead (n : ℕ) (s d d′ : Text) (t t′ rows rows′ : List ℕ)
 abbrev pub groupedAt : Reading → ℕ → ℕ → ℕ → Reading
 groupedAt r at line used =
     record {
+      file = r .file;
       at = at;
       line = line;
       used = used;
@@ -59,6 +60,7 @@ groupedAt r at line used =
       set = closedSet noHeading (r .set .set);
       places = r .places;
       cursors = r .cursors;
+      waiting = nothing;
       fault = 0;
       more = true;
     }

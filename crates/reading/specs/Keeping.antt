@@ -7,6 +7,7 @@ use lib.ListN.{length, getD, drop}
 use Rattle.text.specs.Bytes.{Text, concatMap}
 use Rattle.text.specs.Reading.{left}
 use Rattle.profile.specs.Profile.{Profile}
+use Rattle.rules.specs.Sections.{Spot}
 use Rattle.answers.specs.Firings.{Firing, ruleFires}
 use Rattle.bitsets.specs.Sets.{isIn}
 use Rattle.firing.specs.declared.Cursors.{Cursors}
@@ -31,11 +32,11 @@ pub record KeptPlaces (o : OpenSet) (s : Text) (ps : List ℕ) : Type 0 where
   pub range : o .first + o .count ≤ mostPlaces
   pub place : (k : ℕ) → o .first ≤ k → k < o .first + o .count → isIn k (o .wanted) ≡ false → PlaceAt (o .set) s (getD ps k 0)
 
--- what the rule at a layout's place fires, if its line has the number that l gives
-unfoldable pub placeFires : Profile → OpenSet → Text → List ℕ → (ℕ → ℕ) → ℕ → List Firing
+-- what the rule at a layout's place fires, if its line stands at the place that l gives
+unfoldable pub placeFires : Profile → OpenSet → Text → List ℕ → (ℕ → Spot) → ℕ → List Firing
 placeFires p o s ps l k = cond (isIn k (o .wanted)) [] (ruleFires p (l k) k (headingBy (o .set) .components) (drop 1 (left s (getD ps k 0))))
 
--- the rules at all places, layout by layout, whatever lines they stand in
+-- the rules at all places, layout by layout, whatever places they stand at
 pub record KeptFired (p : Profile) (o : OpenSet) (s : Text) (ps : List ℕ) (d d′ : Text) (q q′ : Cursors) : Type 0 where
-  pub bytes : (l : ℕ → ℕ) → d′ ≡ runBuf d q (concatMap (placeFires p o s ps l) (layoutsIn o))
-  pub places : (l : ℕ → ℕ) → q′ ≡ runCur q (concatMap (placeFires p o s ps l) (layoutsIn o))
+  pub bytes : (l : ℕ → Spot) → d′ ≡ runBuf d q (concatMap (placeFires p o s ps l) (layoutsIn o))
+  pub places : (l : ℕ → Spot) → q′ ≡ runCur q (concatMap (placeFires p o s ps l) (layoutsIn o))

@@ -1,4 +1,5 @@
 pub mod Order
+pub mod Around
 pub mod Owed
 pub mod Left
 pub mod Seeking
@@ -7,5 +8,6 @@ pub mod Opening
 pub mod States
 pub mod Steps
 pub mod Heads
+pub mod Including
 pub mod Files
 pub mod Profiled

@@ -4,10 +4,9 @@ use mathlib.Core.Path.{_≡_}
 use mathlib.Core.List.{List, [], _∷_, _++_}
 use mathlib.Core.Bool.{Bool, true, false, cond}
 use Rattle.text.specs.Bytes.{Text, Words, concatMap}
-use Rattle.text.specs.Lines.{Line}
 use Rattle.profile.specs.Profile.{Profile}
 use Rattle.rules.specs.Headings.{Heading, upFrom}
-use Rattle.rules.specs.Sections.{Rule}
+use Rattle.rules.specs.Sections.{Placed, Rule}
 use Rattle.rules.specs.Faults.{Groups}
 use Rattle.answers.specs.Matching.{members}
 use Rattle.answers.specs.Firings.{Firing, firesAt, setFires, ruleByRule}
@@ -35,7 +34,7 @@ setOwes look p o kept rs =
     (concatMap (owedAt look p (headingBy (o .set)) (o .wanted) kept rs) (layoutsIn o))
 
 -- what is still to fire from a line on
-unfoldable pub owed : Groups → Profile → OpenSet → Kept → List Line → List Firing
+unfoldable pub owed : Groups → Profile → OpenSet → Kept → List Placed → List Firing
 owed gs p o kept ls = setOwes (members gs) p o kept (rulesFrom ls) ++ firingsFrom gs p ls
 
 -- the kept rules, layout by layout

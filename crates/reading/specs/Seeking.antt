@@ -6,9 +6,9 @@ use mathlib.Core.Bool.{Bool, true, false, not, _&&_}
 use lib.ListN.{length, drop}
 use Rattle.text.specs.Bytes.{Text, anyOf}
 use Rattle.text.specs.Refusals.{firstRefusal}
-use Rattle.text.specs.Reading.{left, follow, Opens}
+use Rattle.text.specs.Reading.{left, Opens}
 use Rattle.profile.specs.Profile.{Texts, profileOf, layoutCount}
-use Rattle.rules.specs.Sections.{Rule}
+use Rattle.rules.specs.Sections.{placeOf, Rule}
 use Rattle.rules.specs.Faults.{Groups, rightWords}
 use Rattle.rules.specs.declared.SetHeading.{SetHeading}
 use Rattle.rules.specs.Checking.{presentOf, checkFrom}
@@ -20,6 +20,7 @@ use Rattle.names.specs.Ready.{Ready}
 use Rattle.reading.specs.declared.OpenSet.{OpenSet}
 use Rattle.reading.specs.declared.Sought.{Sought}
 use Rattle.reading.specs.declared.Sought.the-variants as sought
+use Rattle.reading.specs.Around.{Around, spotOf, textFrom}
 use Rattle.reading.specs.Owed.{Kept, AllWanted, wanting, keeping, owed, keptFires}
 
 -- A set as it is read: what its rules are held to, and its layouts among n.
@@ -44,18 +45,19 @@ pub record PlaceAt (h : SetHeading) (s : Text) (place : ℕ) : Type 0 where
 
 -- the lines from `at` up to i are passed over: nothing of them is refused, and they fire nothing
 pub record PassedOver (x : Texts) (gs : Groups) (o : OpenSet) (s : Text) (at n i m : ℕ) : Type 0 where
-  pub faults : (ns : List Text) → checkFrom ns (o .present) (follow s at n) ≡ checkFrom ns (o .present) (follow s i m)
-  pub owes : (kept : Kept) → owed gs (profileOf x) o kept (follow s at n) ≡ owed gs (profileOf x) o kept (follow s i m)
+  pub faults : (c : Around) (ns : List Text) → checkFrom ns (o .present) (textFrom c s at n) ≡ checkFrom ns (o .present) (textFrom c s i m)
+  pub owes : (c : Around) (kept : Kept) → owed gs (profileOf x) o kept (textFrom c s at n) ≡ owed gs (profileOf x) o kept (textFrom c s i m)
 
 -- a rule that matches at the layouts of m, and behind whose left words the line goes on at `place`
 pub record RuleFound (x : Texts) (gs : Groups) (o : OpenSet) (s : Text) (at n place m next n′ : ℕ) : Type 0 where
-  pub rule : Rule
-  pub words : drop 1 (left s place) ≡ rightWords (headingBy (o .set)) (rule .text)
-  pub faults : (ns : List Text) → checkFrom ns (o .present) (follow s at n) ≡ checkFrom ns (o .present) (follow s next n′)
-  pub keeps : o .every ≡ false → (kept : Kept) (w : ℕ) → Without (o .wanted) m w →
-      owed gs (profileOf x) o kept (follow s at n) ≡ owed gs (profileOf x) (wanting o w) (keeping m rule kept) (follow s next n′)
-  pub fires : o .every ≡ true → (kept : Kept) (w : ℕ) → Without (o .wanted) m w →
-      owed gs (profileOf x) o kept (follow s at n) ≡ keptFires (profileOf x) (wanting o w) (keeping m rule kept) ++ owed gs (profileOf x) o kept (follow s next n′)
+  pub rule : Around → Rule
+  pub words : (c : Around) → drop 1 (left s place) ≡ rightWords (headingBy (o .set)) (rule c .text)
+  pub faults : (c : Around) (ns : List Text) → checkFrom ns (o .present) (textFrom c s at n) ≡ checkFrom ns (o .present) (textFrom c s next n′)
+  pub keeps : (c : Around) → o .every ≡ false → (kept : Kept) (w : ℕ) → Without (o .wanted) m w →
+      owed gs (profileOf x) o kept (textFrom c s at n) ≡ owed gs (profileOf x) (wanting o w) (keeping m (rule c) kept) (textFrom c s next n′)
+  pub fires : (c : Around) → o .every ≡ true → (kept : Kept) (w : ℕ) → Without (o .wanted) m w →
+      owed gs (profileOf x) o kept (textFrom c s at n) ≡
+      keptFires (profileOf x) (wanting o w) (keeping m (rule c) kept) ++ owed gs (profileOf x) o kept (textFrom c s next n′)
 
 -- where the walk has come to
 abbrev pub SoughtAt : OpenSet → Text → ℕ → Sought → Type 0
@@ -68,9 +70,10 @@ SoughtAt o s at sought.End = Unit {0}
 abbrev pub SoughtOf : Texts → Groups → OpenSet → Text → ℕ → ℕ → Sought → Type 0
 SoughtOf x gs o s at n (sought.Rule place m next n′) = RuleFound x gs o s at n place m next n′
 SoughtOf x gs o s at n (sought.Heading i m from l) = PassedOver x gs o s at n i m
-SoughtOf x gs o s at n (sought.Refused k m) = (ns : List Text) → firstRefusal (checkFrom ns (o .present) (follow s at n)) ≡ record { number = k; place = m }
-SoughtOf x gs o s at n sought.End = ((ns : List Text) → checkFrom ns (o .present) (follow s at n) ≡ [])
-    × ((kept : Kept) → owed gs (profileOf x) o kept (follow s at n) ≡ owed gs (profileOf x) o kept [])
+SoughtOf x gs o s at n (sought.Refused k m) =
+    (c : Around) (ns : List Text) → firstRefusal (checkFrom ns (o .present) (textFrom c s at n)) ≡ record { number = k; place = placeOf (spotOf c m) }
+SoughtOf x gs o s at n sought.End = ((c : Around) (ns : List Text) → checkFrom ns (o .present) (textFrom c s at n) ≡ checkFrom ns (o .present) (c .rest))
+    × ((c : Around) (kept : Kept) → owed gs (profileOf x) o kept (textFrom c s at n) ≡ owed gs (profileOf x) o kept (c .rest))
 
 -- for every profile and all groups that the names are held for
 pub record Seeks (d : Text) (t rows : List ℕ) (flags : List Bool) (count : ℕ) (o : OpenSet) (s : Text) (at n : ℕ) (r : Sought) : Type 0 where

@@ -7,6 +7,7 @@ use lib.ListN.{length, getD}
 use Rattle.text.specs.Bytes.{Text}
 use Rattle.text.specs.Reading.{Opens}
 use Rattle.profile.specs.Profile.{Texts}
+use Rattle.rules.specs.Checking.{noHeading}
 use Rattle.firing.specs.declared.Cursors.{Cursors}
 use Rattle.reading.specs.declared.OpenSet.{OpenSet}
 use Rattle.reading.specs.declared.Reading.{Reading}
@@ -14,27 +15,37 @@ use Rattle.reading.specs.Owed.{wanting}
 use Rattle.reading.specs.Opening.{closedSet}
 use Rattle.reading.specs.Keeping.{Noted}
 use Rattle.reading.specs.Seeking.{Without}
-use Rattle.reading.specs.States.{Sound, ReadTo, RefusedAt, ReadAll}
+use Rattle.reading.specs.Around.{Around, textFrom, aheadOf}
+use Rattle.reading.specs.States.{nothing, Sound, Whole, ReadTo, RefusedAt}
 
--- what a step leads to, for a profile: a refusal, more to read, or the end
-pub record Leads (w₀ : Text) (q₀ : Cursors) (n : ℕ) (s d : Text) (t rows : List ℕ) (flags : List Bool) (b : List ℕ) (w : Text) (x : Texts) (r : Reading) : Type 0 where
-  pub refused : (r .fault ≡ 0 → ⊥) → RefusedAt s r
-  pub on : r .more ≡ true → ReadTo w₀ q₀ n s d t rows flags b w x r
-  pub end : r .fault ≡ 0 → r .more ≡ false → ReadAll w₀ q₀ s w x r
+-- what a step leads to, for a profile, in what stands around the file: a refusal, more to read, or the end of the file
+pub record Leads (a : Whole) (c : Around) (n : ℕ) (s d : Text) (t rows : List ℕ) (flags : List Bool) (b : List ℕ) (w : Text) (x : Texts) (r : Reading) : Type 0 where
+  pub refused : (r .fault ≡ 0 → ⊥) → RefusedAt a r
+  pub on : r .more ≡ true → ReadTo a n s d t rows flags b w x (aheadOf c s r) r
+  pub end : r .fault ≡ 0 → r .more ≡ false → ReadTo a n s d t rows flags b w x (c .rest) r
+
+-- no set is being read
+abbrev pub Closed : Reading → Type 0
+Closed r = r .set ≡ closedSet (r .set .present) (r .set .set)
 
 -- a step from the state r to r′; what is lent goes from d, t, rows, flags, the scratch x and the buffer w on
 pub record Stepped (n : ℕ) (s d d′ : Text) (t t′ rows rows′ : List ℕ) (flags flags′ : List Bool) (b : List ℕ) (x x′ w w′ : Text) (r r′ : Reading) : Type 0 where
   pub text : length d′ ≡ length d
   pub scratch : length x′ ≡ length x
   pub buffer : length w′ ≡ length w
-  pub sound : r′ .more ≡ true → Sound n s d′ t′ rows′ flags′ b x′ w′ r′
+  pub file : r′ .file ≡ r .file
+  pub sound : (r′ .more ≡ false → r′ .fault ≡ 0) → Sound n s d′ t′ rows′ flags′ b x′ w′ r′
   pub further : r′ .more ≡ true → r .at < r′ .at
-  pub means : (w₀ : Text) (q₀ : Cursors) (p : Texts) → ReadTo w₀ q₀ n s d t rows flags b w p r → Leads w₀ q₀ n s d′ t′ rows′ flags′ b w′ p r′
+  pub waits : r′ .waiting .some ≡ true → Closed r′
+  pub ends : r′ .fault ≡ 0 → r′ .more ≡ false → Closed r′
+  pub means : (a : Whole) (c : Around) → c .file ≡ r .file → (p : Texts) → ReadTo a n s d t rows flags b w p (textFrom c s (r .at) (r .line)) r →
+      Leads a c n s d′ t′ rows′ flags′ b w′ p r′
 
 -- a line is refused
 abbrev pub stoppedAt : Reading → ℕ → ℕ → Reading
 stoppedAt r k line =
     record {
+      file = r .file;
       at = r .at;
       line = line;
       used = r .used;
@@ -43,6 +54,7 @@ stoppedAt r k line =
       set = r .set;
       places = r .places;
       cursors = r .cursors;
+      waiting = nothing;
       fault = k;
       more = false;
     }
@@ -51,6 +63,7 @@ stoppedAt r k line =
 abbrev pub closedAt : Reading → ℕ → ℕ → Cursors → Reading
 closedAt r at line q =
     record {
+      file = r .file;
       at = at;
       line = line;
       used = r .used;
@@ -59,6 +72,7 @@ closedAt r at line q =
       set = closedSet (r .set .present) (r .set .set);
       places = r .places;
       cursors = q;
+      waiting = nothing;
       fault = 0;
       more = true;
     }
@@ -67,6 +81,7 @@ closedAt r at line q =
 abbrev pub ended : Reading → Reading
 ended r =
     record {
+      file = r .file;
       at = r .at;
       line = r .line;
       used = r .used;
@@ -75,6 +90,7 @@ ended r =
       set = r .set;
       places = r .places;
       cursors = r .cursors;
+      waiting = nothing;
       fault = 0;
       more = false;
     }
@@ -83,6 +99,7 @@ ended r =
 abbrev pub nextAt : Reading → ℕ → ℕ → OpenSet → List ℕ → Cursors → Reading
 nextAt r at line o ps q =
     record {
+      file = r .file;
       at = at;
       line = line;
       used = r .used;
@@ -91,6 +108,43 @@ nextAt r at line o ps q =
       set = o;
       places = ps;
       cursors = q;
+      waiting = nothing;
+      fault = 0;
+      more = true;
+    }
+
+-- an include line is read up to its end, and waits
+abbrev pub waitingAt : Reading → ℕ → ℕ → ℕ → ℕ → Reading
+waitingAt r at line start end =
+    record {
+      file = r .file;
+      at = at;
+      line = line;
+      used = r .used;
+      count = r .count;
+      groups = r .groups;
+      set = r .set;
+      places = r .places;
+      cursors = r .cursors;
+      waiting = record { some = true; start = start; end = end; line = r .line };
+      fault = 0;
+      more = true;
+    }
+
+-- a file is read on, or begun, with no set
+abbrev pub turnedTo : Reading → ℕ → ℕ → ℕ → Reading
+turnedTo r file at line =
+    record {
+      file = file;
+      at = at;
+      line = line;
+      used = r .used;
+      count = r .count;
+      groups = r .groups;
+      set = closedSet noHeading (r .set .set);
+      places = r .places;
+      cursors = r .cursors;
+      waiting = nothing;
       fault = 0;
       more = true;
     }

@@ -1,16 +1,13 @@
-// A file read to its end, or to its first refused line.
+// One step of a file's reading, and the state that a reading begins with.
 ghost use mathlib.Core.Path.{_≡_};
-ghost use Prim.Native.Nat.{_≤_, _<_};
-ghost use lib.ListN.{length};
+ghost use Prim.Native.Nat.{_≤_};
 ghost use Rattle.text.specs.Reading.{Within};
 ghost use Rattle.reading.specs.Owed.{wanting as wantingOf};
 ghost use Rattle.reading.specs.States.{Sound};
 ghost use Rattle.reading.specs.Steps.{Stepped};
-ghost use Rattle.output.specs.Store.{farthest};
-ghost use Rattle.firing.specs.Writing.{Low};
 ghost use Rattle.rules.specs.Held.{SetSized};
-ghost use Rattle.reading.specs.Files.{Started, NamesStart, FileReadOf};
-use super::FileRead;
+ghost use Rattle.reading.specs.Files.{Started};
+use super::NOTHING;
 use super::OpenSet;
 use super::Reading;
 use super::Setting;
@@ -29,11 +26,9 @@ use names::Held;
 use rules::Index;
 use rules::NO_HEADING;
 use rules::SetHeading;
-use text::reader::fence_of;
-use text::table::TABLE;
 
 // One step on: to the next rule that matches, which is kept or fired; over a heading, before which the kept rules of its set are fired; or to the end.
-fn read_on(
+pub fn read_on(
     s: &[u8],
     t: &[u8; 512],
     z: Setting,
@@ -168,8 +163,8 @@ fn no_set() -> SetHeading
     }
 }
 
-// Before the first line.
-fn at_start(held: Held, cursors: Cursors) -> Reading
+// Before the first line of the first file.
+pub fn at_start(held: Held, cursors: Cursors) -> Reading
     ensures { λ r. ⌜ Started held cursors r ⌝ }
 {
     let heading = no_set();
@@ -183,6 +178,7 @@ fn at_start(held: Held, cursors: Cursors) -> Reading
     };
     let places: [usize; 33] = [0; 33];
     Reading {
+        file: 1,
         at: 0,
         line: 1,
         used: held.used,
@@ -191,54 +187,9 @@ fn at_start(held: Held, cursors: Cursors) -> Reading
         set,
         places,
         cursors,
+        waiting: NOTHING,
         fault: 0,
         more: true,
     }
 }
 
-// A file read for a profile that is compiled into the names: its first refused line, or number 0 and all that fires written from the cursors on.
-pub fn read_file(
-    s: &[u8],
-    n: usize,
-    held: Held,
-    text: &mut [u8],
-    table: &mut [usize; 1024],
-    rows: &mut [u64; 512],
-    flags: &mut [bool; 1024],
-    bounds: &[usize; 130],
-    buf: &mut [u8],
-    q: Cursors,
-) -> FileRead
-    requires { ⌜ (1 ≤ n) × (n < 10) × NamesStart (now text) (now table) (now rows) (now flags) (now bounds) held × (length (now buf) ≤ farthest) × Low (q .at) ⌝ }
-    ensures { λ r. ⌜ FileReadOf n (now (s .entry)) held (now (text .entry)) (now (table .entry)) (now (rows .entry)) (now (flags .entry)) (now (bounds .entry))
-        (now (buf .entry)) (now (buf .exit)) q r ⌝ }
-{
-    let t = TABLE;
-    let z = Setting {
-        fence: fence_of(s),
-        n,
-    };
-    let mut scratch: [u8; 8192] = [0; 8192];
-    let mut r = at_start(held, q);
-    while r.more {
-        r = read_on(
-            s,
-            &t,
-            z,
-            r,
-            text,
-            table,
-            rows,
-            flags,
-            bounds,
-            &mut scratch,
-            buf,
-        );
-    }
-    let cursors = r.cursors;
-    FileRead {
-        number: r.fault,
-        place: r.line,
-        cursors,
-    }
-}

@@ -1,4 +1,4 @@
-// A heading: a set is opened, or a group defined.
+// A heading: a set is opened, a group defined, or an include line waits.
 ghost use mathlib.Core.Path.{_≡_};
 ghost use mathlib.Core.List.{[]};
 ghost use mathlib.Core.Bool.{false};
@@ -8,12 +8,14 @@ ghost use Rattle.text.specs.Reading.{left, Table, Fenced, Within};
 ghost use Rattle.rules.specs.Words.{hasDollar};
 ghost use Rattle.judging.specs.Groups.{DollarWord};
 ghost use Rattle.reading.specs.Heads.{AtHeading, AtGroup, NamesHeld, SetRead, HeadRead, groupedAt};
+use super::NOTHING;
 use super::OpenSet;
 use super::Reading;
 use super::Setting;
 use super::opening::open_set;
 use super::states::go_on;
 use super::states::stop;
+use super::states::wait;
 use judging::FirstWord;
 use judging::group::first_word;
 use judging::group::group_line;
@@ -21,7 +23,7 @@ use judging::set::set_line;
 use names::define::define_group;
 use rules::NO_HEADING;
 
-// The heading of a set, whose words begin at `from`.
+// The heading of a set, or an include line, whose words begin at `from`.
 fn read_set(s: &[u8], t: &[u8; 512], z: Setting, r: Reading, from: usize, number: usize) -> Reading
     requires { ⌜ Within (now s) (now t) (z .fence) from number × AtHeading (now s) r from number × (1 ≤ z .n) × (z .n ≤ 32)
         × (hasDollar (getD (left (now s) from) 0 []) ≡ false) ⌝ }
@@ -30,6 +32,10 @@ fn read_set(s: &[u8], t: &[u8; 512], z: Setting, r: Reading, from: usize, number
     let l = set_line(s, t, z.fence, from, number);
     if l.fault != 0 {
         return stop(r, l.fault, r.line);
+    }
+    let path = l.path;
+    if path.some {
+        return wait(r, l.next, l.after, path.start, path.end);
     }
     let set = l.set;
     let o = open_set(set, z.n);
@@ -56,6 +62,7 @@ fn grouped(r: Reading, at: usize, line: usize, used: usize) -> Reading
     let places = r.places;
     let cursors = r.cursors;
     Reading {
+        file: r.file,
         at,
         line,
         used,
@@ -64,6 +71,7 @@ fn grouped(r: Reading, at: usize, line: usize, used: usize) -> Reading
         set,
         places,
         cursors,
+        waiting: NOTHING,
         fault: 0,
         more: true,
     }

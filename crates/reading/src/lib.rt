@@ -2,6 +2,7 @@
 
 pub mod file;
 pub mod heading;
+pub mod include;
 pub mod keep;
 pub mod left;
 pub mod opening;
@@ -59,9 +60,25 @@ pub struct Setting {
     pub n: usize,
 }
 
-// How far a reading has come: the start of the next line and its number; the used bytes of the names' text, the names and the groups so far; the set that is being
-// read and the places of its kept rules; what is written; the refusal of that line, or 0; and whether there is more to read.
+// An include line that is read up to its end and waits: whether there is one, where its path stands in the file, and its line.
+pub struct Waiting {
+    pub some: bool,
+    pub start: usize,
+    pub end: usize,
+    pub line: usize,
+}
+
+pub const NOTHING: Waiting = Waiting {
+    some: false,
+    start: 0,
+    end: 0,
+    line: 0,
+};
+
+// How far a reading has come: in which file, the start of the next line and its number; the used bytes of the names' text, the names and the groups so far; the set that is being
+// read and the places of its kept rules; what is written; the include line that waits; the refusal of that line, or 0; and whether there is more to read.
 pub struct Reading {
+    pub file: usize,
     pub at: usize,
     pub line: usize,
     pub used: usize,
@@ -70,13 +87,32 @@ pub struct Reading {
     pub set: OpenSet,
     pub places: [usize; 33],
     pub cursors: Cursors,
+    pub waiting: Waiting,
     pub fault: usize,
     pub more: bool,
 }
 
-// A file read: the number and the line of its first refusal, or number 0, and what is written.
+// A file that is to be read: where it stands in the bundle, how deep its include lines may go, the layout count, and how far the reading has come.
+pub struct Walk {
+    pub start: usize,
+    pub end: usize,
+    pub depth: usize,
+    pub n: usize,
+    pub reading: Reading,
+}
+
+// The file that an include line names: its number, and where it stands in the bundle; or the line's refusal.
+pub struct Lookup {
+    pub fault: usize,
+    pub number: usize,
+    pub start: usize,
+    pub end: usize,
+}
+
+// A bundle read: the number of its first refusal, its file and its line, or number 0; and what is written.
 pub struct FileRead {
     pub number: usize,
-    pub place: usize,
+    pub file: usize,
+    pub line: usize,
     pub cursors: Cursors,
 }

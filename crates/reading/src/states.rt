@@ -1,9 +1,12 @@
 // How a reading goes on from a state.
 ghost use mathlib.Core.Path.{_≡_};
-ghost use Rattle.reading.specs.Steps.{stoppedAt, closedAt, ended, nextAt};
+ghost use Rattle.reading.specs.Steps.{stoppedAt, closedAt, ended, nextAt, waitingAt, turnedTo};
+use super::NOTHING;
 use super::OpenSet;
 use super::Reading;
+use super::Waiting;
 use firing::Cursors;
+use rules::NO_HEADING;
 
 // The line `line` is refused with the number k.
 pub fn stop(r: Reading, k: usize, line: usize) -> Reading
@@ -13,6 +16,7 @@ pub fn stop(r: Reading, k: usize, line: usize) -> Reading
     let places = r.places;
     let cursors = r.cursors;
     Reading {
+        file: r.file,
         at: r.at,
         line,
         used: r.used,
@@ -21,6 +25,7 @@ pub fn stop(r: Reading, k: usize, line: usize) -> Reading
         set,
         places,
         cursors,
+        waiting: NOTHING,
         fault: k,
         more: false,
     }
@@ -43,6 +48,7 @@ pub fn close(r: Reading, at: usize, line: usize, cursors: Cursors) -> Reading
     };
     let places = r.places;
     Reading {
+        file: r.file,
         at,
         line,
         used: r.used,
@@ -51,6 +57,7 @@ pub fn close(r: Reading, at: usize, line: usize, cursors: Cursors) -> Reading
         set,
         places,
         cursors,
+        waiting: NOTHING,
         fault: 0,
         more: true,
     }
@@ -64,6 +71,7 @@ pub fn end(r: Reading) -> Reading
     let places = r.places;
     let cursors = r.cursors;
     Reading {
+        file: r.file,
         at: r.at,
         line: r.line,
         used: r.used,
@@ -72,6 +80,7 @@ pub fn end(r: Reading) -> Reading
         set,
         places,
         cursors,
+        waiting: NOTHING,
         fault: 0,
         more: false,
     }
@@ -89,6 +98,7 @@ pub fn go_on(
     ensures { λ a. ⌜ a ≡ nextAt r at line set places cursors ⌝ }
 {
     Reading {
+        file: r.file,
         at,
         line,
         used: r.used,
@@ -97,6 +107,68 @@ pub fn go_on(
         set,
         places,
         cursors,
+        waiting: NOTHING,
+        fault: 0,
+        more: true,
+    }
+}
+
+// An include line is read up to its end, with its path from `start` to `end`: it waits.
+pub fn wait(r: Reading, at: usize, line: usize, start: usize, end: usize) -> Reading
+    ensures { λ a. ⌜ a ≡ waitingAt r at line start end ⌝ }
+{
+    let set = r.set;
+    let places = r.places;
+    let cursors = r.cursors;
+    let waiting = Waiting {
+        some: true,
+        start,
+        end,
+        line: r.line,
+    };
+    Reading {
+        file: r.file,
+        at,
+        line,
+        used: r.used,
+        count: r.count,
+        groups: r.groups,
+        set,
+        places,
+        cursors,
+        waiting,
+        fault: 0,
+        more: true,
+    }
+}
+
+// A file is read on, or begun, with no set.
+pub fn turn_to(r: Reading, file: usize, at: usize, line: usize) -> Reading
+    ensures { λ a. ⌜ a ≡ turnedTo r file at line ⌝ }
+{
+    let o = r.set;
+    let heading = o.set;
+    let set = OpenSet {
+        present: NO_HEADING,
+        set: heading,
+        first: 0,
+        count: 0,
+        every: false,
+        wanted: 0,
+    };
+    let places = r.places;
+    let cursors = r.cursors;
+    Reading {
+        file,
+        at,
+        line,
+        used: r.used,
+        count: r.count,
+        groups: r.groups,
+        set,
+        places,
+        cursors,
+        waiting: NOTHING,
         fault: 0,
         more: true,
     }

@@ -6,12 +6,14 @@ use mathlib.Core.Bool.{true}
 use mathlib.Core.List.{List, [], _∷_, _++_, map, append-assoc}
 use lib.ListN.{length, drop, replicate, length-append, length-drop}
 use lib.Seq.{take-append-seam, drop-append-seam}
-use Rattle.text.specs.Limits.{longestFile, longestTotal, mostGroups}
+use Rattle.text.specs.Limits.{longestTotal, mostGroups}
 use Rattle.text.specs.Bytes.{Text, apart}
-use Rattle.text.specs.Lines.{closed}
 use Rattle.profile.specs.Profile.{Texts}
 use Rattle.profile.specs.Options.{Alike, Within, withOptions}
+use Rattle.rules.specs.Written.{Source, writtenOut}
+use Rattle.rules.specs.Faults.{bundleRefusals}
 use Rattle.rules.specs.Names.{definesOf, namesOf}
+use Rattle.rules.proofs.Shifted.{Move, movedLine}
 use Rattle.answers.specs.declared.Outcome.{Outcome}
 use Rattle.answers.specs.Answer.{tenTexts, sum, joined, total, Answer, refused, accepted, answer, numberOf, placeOf, lengthsOf, outcome, bufferAfter, Answered, Resolved, textsIn}
 use Rattle.answers.specs.Joined.{together}
@@ -29,7 +31,7 @@ texts-back (t ∷ ts) r =
 -- "A refusal has ten zero lengths; buffer and length sheet stay untouched."
 pub record Kept (d d′ : Text) (r : Outcome) : Type 0 where
   pub least : 1 ≤ r .number
-  pub most : r .number ≤ 11
+  pub most : r .number ≤ 15
   pub lengths : r .lengths ≡ replicate 10 0
   pub buffer : d′ ≡ d
 
@@ -45,17 +47,17 @@ kept-when d d′ r (refused q) h e b k =
     }
 kept-when d d′ r (accepted ts) h e b k = absurd (k (ap (λ (x : Outcome). x .number) e))
 
-pub kept : (f : Text) (t : Texts) (d d′ : Text) (r : Outcome) → Resolved f t d d′ r → (r .number ≡ 0 → ⊥) → Kept d d′ r
+pub kept : (f : Source) (t : Texts) (d d′ : Text) (r : Outcome) → Resolved f t d d′ r → (r .number ≡ 0 → ⊥) → Kept d d′ r
 kept f t d d′ r v k = kept-when d d′ r (answer (length d) f t) (answered (length d) f t) (v .result) (v .buffer) k
 
 -- "The buffer's first bytes hold the ten texts without gaps; later bytes are untouched."
-pub record Holds (f : Text) (t : Texts) (d d′ : Text) (r : Outcome) : Type 0 where
+pub record Holds (f : Source) (t : Texts) (d d′ : Text) (r : Outcome) : Type 0 where
   pub place : r .place ≡ 0
   pub texts : textsIn d′ (r .lengths) ≡ tenTexts f t
   pub later : drop (sum (r .lengths)) d′ ≡ drop (sum (r .lengths)) d
   pub size : length d′ ≡ length d
 
-pub holds : (f : Text) (t : Texts) (d d′ : Text) (r : Outcome) (ts : List Text) → answer (length d) f t ≡ accepted ts → ts ≡ tenTexts f t → total ts ≤ length d →
+pub holds : (f : Source) (t : Texts) (d d′ : Text) (r : Outcome) (ts : List Text) → answer (length d) f t ≡ accepted ts → ts ≡ tenTexts f t → total ts ≤ length d →
     Resolved f t d d′ r → Holds f t d d′ r
 unfolding outcome placeOf lengthsOf bufferAfter total
 holds f t d d′ r ts is g h v =
@@ -70,36 +72,36 @@ holds f t d d′ r ts is g h v =
       size = ap length b ∙ length-append (joined ts) (drop (total ts) d) ∙ (let z = length-drop (total ts) d in let y = joined-length ts in omega arith);
     }
 
-pub held : (f : Text) (t : Texts) (d d′ : Text) (r : Outcome) → Resolved f t d d′ r → r .number ≡ 0 → Holds f t d d′ r
+pub held : (f : Source) (t : Texts) (d d′ : Text) (r : Outcome) → Resolved f t d d′ r → r .number ≡ 0 → Holds f t d d′ r
 held f t d d′ r v h = let a = accepts (length d) f t r (v .result) h in holds f t d d′ r (tenTexts f t) (a .is) refl (a .fits) v
 
--- joined files
-module _ (a b : Text) (t : Texts) (c c′ : Text) (x : Outcome) (e e′ : Text) (y : Outcome) (d d′ : Text) (z : Outcome)
-    (first : Resolved a t c c′ x) (second : Resolved b t e e′ y) (both : Resolved (a ++ b) t d d′ z)
-    (n : x .number ≡ 0) (m : y .number ≡ 0) where
+-- joined texts: that of g is that of a, then that of b at other places
+module _ (a b g : Source) (m : Move) (text : writtenOut g ≡ writtenOut a ++ map (movedLine m) (writtenOut b)) (t : Texts) (c c′ : Text) (x : Outcome) (e e′ : Text) (y : Outcome) (d d′ : Text) (z : Outcome)
+    (first : Resolved a t c c′ x) (second : Resolved b t e e′ y) (both : Resolved g t d d′ z)
+    (n : x .number ≡ 0) (k : y .number ≡ 0) where
   texts : together (textsIn c′ (x .lengths)) (textsIn e′ (y .lengths)) ≡ together (tenTexts a t) (tenTexts b t)
-  texts = rw (held a t c c′ x first n .texts, held b t e e′ y second m .texts) refl
+  texts = rw (held a t c c′ x first n .texts, held b t e e′ y second k .texts) refl
 
-  pub joined-resolve : closed a ≡ true → apart (namesOf b) (definesOf a) ≡ true → length (a ++ b) ≤ longestFile →
+  pub joined-resolve : apart (namesOf b) (definesOf a) ≡ true → bundleRefusals (g .bundle) ≡ [] →
       length (definesOf a) + length (definesOf b) ≤ mostGroups → total (together (textsIn c′ (x .lengths)) (textsIn e′ (y .lengths))) ≤ longestTotal →
       total (together (textsIn c′ (x .lengths)) (textsIn e′ (y .lengths))) ≤ length d →
       (z .number ≡ 0) × (textsIn d′ (z .lengths) ≡ together (textsIn c′ (x .lengths)) (textsIn e′ (y .lengths)))
   unfolding outcome numberOf
-  joined-resolve end names size groups top fits =
+  joined-resolve names size groups top fits =
       let p = accepts (length c) a t x (first .result) n in
-      let q = accepts (length e) b t y (second .result) m in
+      let q = accepts (length e) b t y (second .result) k in
       let u : total (together (tenTexts a t) (tenTexts b t)) ≤ longestTotal = rw (sym texts) top in
       let w : total (together (tenTexts a t) (tenTexts b t)) ≤ length d = rw (sym texts) fits in
-      let k = joined-answer a b t (length c) (length e) (length d) (tenTexts a t) (tenTexts b t) (p .is) (q .is) end names size groups u w in
-      let g : z .number ≡ 0 = ap (λ (o : Outcome). o .number) (both .result ∙ ap outcome k) in
-      let r = accepts (length d) (a ++ b) t z (both .result) g in
-      (g, held (a ++ b) t d d′ z both g .texts ∙ same-texts (sym (r .is) ∙ k) ∙ sym texts)
+      let j = joined-answer a b g m text t (length c) (length e) (length d) (tenTexts a t) (tenTexts b t) (p .is) (q .is) names size groups u w in
+      let i : z .number ≡ 0 = ap (λ (o : Outcome). o .number) (both .result ∙ ap outcome j) in
+      let r = accepts (length d) g t z (both .result) i in
+      (i, held g t d d′ z both i .texts ∙ same-texts (sym (r .is) ∙ j) ∙ sym texts)
     where
       same-texts : {us vs : List Text} → accepted us ≡ accepted vs → us ≡ vs
       same-texts h = cc
 
 -- options reordered or repeated
-pub options-resolve : (f : Text) (t : Texts) (o o′ d c′ : Text) (x : Outcome) (e′ : Text) (y : Outcome) → Alike o o′ → Within o → Within o′ →
+pub options-resolve : (f : Source) (t : Texts) (o o′ d c′ : Text) (x : Outcome) (e′ : Text) (y : Outcome) → Alike o o′ → Within o → Within o′ →
     Resolved f (withOptions t o) d c′ x → Resolved f (withOptions t o′) d e′ y → (x ≡ y) × (c′ ≡ e′)
 options-resolve f t o o′ d c′ x e′ y h w w′ p q =
     let k = options-answer (length d) f t o o′ h w w′ in

@@ -1,16 +1,16 @@
 -- The ways out of a resolve.
-use Prim.Native.Nat.{ℕ, zero, suc, _-_, _≤_, _<_}
+use Prim.Native.Nat.{ℕ, zero, suc, _-_, _^_, _≤_, _<_}
 use mathlib.Core.Path.{_≡_, refl, sym, ap, _∙_}
 use mathlib.Core.List.{List, [], _∷_, _++_, map}
-use mathlib.Core.Bool.{true, false}
+use mathlib.Core.Bool.{Bool, true, false}
 use lib.ListN.{length, take}
 use lib.Seq.{length-take-le}
-use lib.Dec.{leb, ltb}
+use lib.Dec.{leb}
 use native.Mathlib.Omega.{arith}
-use borrow.Author.Tests.{leb-true, lt-ltb, le-ltb}
+use borrow.Author.Tests.{leb-true, eq-eqb, ne-eqb}
 use borrow.Rule.Slice.PartMut.{midOf, postOf}
 use Rattle.text.specs.declared.Refusal.{Refusal}
-use Rattle.text.specs.Limits.{longestFile, longestTotal}
+use Rattle.text.specs.Limits.{longestTotal}
 use Rattle.text.specs.Bytes.{Text, allOf}
 use Rattle.text.specs.Refusals.{refusedIf, firstRefusal, isNumber, hasNumber}
 use Rattle.text.proofs.Lists.{and-both, nil-left, nil-right}
@@ -18,7 +18,10 @@ use Rattle.output.specs.Store.{farthest}
 use Rattle.profile.specs.Profile.{Texts, profileOf}
 use Rattle.profile.specs.Refusals.{profileRefusals}
 use Rattle.profile.proofs.Numbers.{profile-numbers}
-use Rattle.rules.specs.Faults.{lineFaults, fileRefusals}
+use Rattle.bundle.specs.Bundle.{filesOf, whole, firstLong}
+use Rattle.rules.specs.Sections.{placeOf as spotPlace}
+use Rattle.rules.specs.Written.{Source}
+use Rattle.rules.specs.Faults.{lineFaults, bundleRefusals, fileRefusals}
 use Rattle.answers.specs.declared.Outcome.{Outcome}
 use Rattle.answers.specs.Firings.{fileFirings}
 use Rattle.answers.specs.Answer.{tenTexts, sum, total, noRoom, refusals, Answer, refused, accepted, firstOf, answer, numberOf, placeOf, lengthsOf, outcome, bufferAfter, Answered}
@@ -27,6 +30,7 @@ use Rattle.firing.specs.Stage.{stageSize, regions, inRegions, textsAt, Staged}
 use Rattle.reading.specs.declared.FileRead.{FileRead}
 use Rattle.reading.specs.Profiled.{ReadFor}
 use Rattle.answers.proofs.Answers.{answered}
+use Rattle.answers.proofs.Places.{most, place-low}
 use Rattle.firing.proofs.Measured.{low-starts, written-by}
 use Rattle.firing.proofs.Staged.{stage-texts}
 
@@ -36,7 +40,7 @@ clear-first : (rs : List Refusal) → allOf hasNumber rs ≡ true → firstRefus
 unfolding firstRefusal allOf hasNumber isNumber
 clear-first [] h e = refl
 clear-first (r ∷ rs) h e =
-    let w = and-both (leb 1 (r .number)) (leb (r .number) 11) (and-both (hasNumber r) (allOf hasNumber rs) h .0) in
+    let w = and-both (leb 1 (r .number)) (leb (r .number) 15) (and-both (hasNumber r) (allOf hasNumber rs) h .0) in
     absurd (omega (arith, leb-true 1 (r .number) (w .0)))
 
 refused-first : (rs more : List Refusal) (ts : List Text) → (firstRefusal rs .number ≡ 0 → ⊥) → refused (firstRefusal rs) ≡ firstOf (rs ++ more) ts
@@ -49,24 +53,40 @@ refused-first (r ∷ rs) more ts h = refl
 pub profile-clear : (t : Texts) (r : Refusal) → r ≡ firstRefusal (profileRefusals t) → r .number ≡ 0 → profileRefusals t ≡ []
 profile-clear t r e h = clear-first (profileRefusals t) (profile-numbers t) (sym (ap (λ (x : Refusal). x .number) e) ∙ h)
 
--- a file that is not too long is refused by its lines alone
-pub file-lines : (f : Text) → length f ≤ longestFile → fileRefusals f ≡ lineFaults f
-unfolding fileRefusals refusedIf
-file-lines f h = rw (le-ltb longestFile (length f) h) refl
+-- a bundle that is whole and has no file too long is refused by its lines alone
+pub bundle-cut : (x : Source) → whole (x .bundle) ≡ false → record { number = 12; place = 0 } ≡ firstRefusal (fileRefusals x)
+unfolding fileRefusals bundleRefusals firstRefusal
+bundle-cut x e = rw e refl
 
-pub file-first : (f : Text) (r : Refusal) → length f ≤ longestFile → firstRefusal (lineFaults f) ≡ r → r ≡ firstRefusal (fileRefusals f)
-file-first f r h e = rw (file-lines f h) (sym e)
+module _ (x : Source) (w : whole (x .bundle) ≡ true) (k : ℕ) (e : k ≡ firstLong (filesOf (x .bundle))) where
+  pub file-long : (k ≡ 0 → ⊥) → record { number = 3; place = spotPlace (record { file = k; line = 0 }) } ≡ firstRefusal (fileRefusals x)
+  unfolding fileRefusals bundleRefusals refusedIf firstRefusal
+  file-long z = rw (w, ← e, ne-eqb k 0 z) refl
 
-pub file-long : (f : Text) → longestFile < length f → firstRefusal (fileRefusals f) ≡ record { number = 3; place = 0 }
-unfolding fileRefusals refusedIf firstRefusal
-file-long f h = rw (lt-ltb longestFile (length f) h) refl
+  pub file-lines : k ≡ 0 → fileRefusals x ≡ lineFaults x
+  unfolding fileRefusals bundleRefusals refusedIf
+  file-lines z = rw (w, ← e, eq-eqb k 0 z) refl
 
-pub lines-clear : (f : Text) → fileRefusals f ≡ [] → lineFaults f ≡ []
+  pub file-first : k ≡ 0 → (r : Refusal) → firstRefusal (lineFaults x) ≡ r → r ≡ firstRefusal (fileRefusals x)
+  file-first z r h = rw (file-lines z) (sym h)
+
+pub lines-clear : (x : Source) → fileRefusals x ≡ [] → lineFaults x ≡ []
 unfolding fileRefusals
-lines-clear f h = nil-right (refusedIf (ltb longestFile (length f)) 3 0) _ h
+lines-clear x h = nil-right (bundleRefusals (x .bundle)) _ h
 
--- an accepted file is read again without a refusal
-pub read-again : (f : Text) (t : Texts) (w w′ : Text) (at : List ℕ) (r : FileRead) → lineFaults f ≡ [] → ReadFor f t w w′ at r → r .number ≡ 0
+pub whole-clear : (x : Source) → fileRefusals x ≡ [] → whole (x .bundle) ≡ true
+unfolding fileRefusals bundleRefusals
+whole-clear x h = go (whole (x .bundle)) refl (nil-left (bundleRefusals (x .bundle)) _ h)
+  where
+    go : (b : Bool) → whole (x .bundle) ≡ b → bundleRefusals (x .bundle) ≡ [] → whole (x .bundle) ≡ true
+    go true e q = e
+    go false e q = absurd (cut (rw e at q))
+      where
+        cut : _≡_ {A = List Refusal} (record { number = 12; place = 0 } ∷ []) [] → ⊥
+        cut z = cc
+
+-- an accepted bundle is read again without a refusal
+pub read-again : (f : Source) (t : Texts) (w w′ : Text) (at : List ℕ) (r : FileRead) → lineFaults f ≡ [] → ReadFor f t w w′ at r → r .number ≡ 0
 unfolding firstRefusal
 read-again f t w w′ at r e v = go (r .number) refl
   where
@@ -75,7 +95,7 @@ read-again f t w w′ at r e v = go (r .number) refl
     go (suc n) h = absurd (omega (arith, h, ap (λ (x : Refusal). x .number) (sym (v .refused (λ z. omega (arith, h, z))) ∙ ap firstRefusal e)))
 
 -- the answer, by what the checks found
-module _ (room : ℕ) (f : Text) (t : Texts) where
+module _ (room : ℕ) (f : Source) (t : Texts) where
   pub profile-refused : (r : Refusal) → r ≡ firstRefusal (profileRefusals t) → (r .number ≡ 0 → ⊥) → outcome (refused r) ≡ outcome (answer room f t)
   unfolding answer refusals
   profile-refused r e h = ap outcome (ap refused e ∙ refused-first (profileRefusals t) _ (tenTexts f t) (λ z. h (ap (λ (x : Refusal). x .number) e ∙ z)))
@@ -96,8 +116,16 @@ module _ (room : ℕ) (f : Text) (t : Texts) where
     unfolding answer refusals refusedIf firstOf outcome numberOf placeOf lengthsOf
     all-accepted ns lines h e = rw (clear, lines, h, e) refl
 
+-- no place of a refusal is too high
+pub place-fits : (room : ℕ) (x : Source) (t : Texts) → (whole (x .bundle) ≡ true → length (filesOf (x .bundle)) ≤ 65535) → (r : Refusal) →
+    outcome (refused r) ≡ outcome (answer room x t) → r .place < 2 ^ 48
+unfolding outcome placeOf
+place-fits room x t few r e = 
+    let k : r .place ≡ placeOf (answer room x t) = ap (λ (y : Outcome). y .place) e in
+    let l : placeOf (answer room x t) ≤ most = place-low room x t few in omega arith
+
 -- A refusal leaves no texts in a stage; an accepted answer leaves each text that is not too long for its region.
-module _ (room : ℕ) (f : Text) (t : Texts) (d : Text) where
+module _ (room : ℕ) (f : Source) (t : Texts) (d : Text) where
   pub staged-refused : (x : Outcome) (r : Refusal) → x ≡ outcome (refused r) → (r .number ≡ 0 → ⊥) → outcome (refused r) ≡ outcome (answer room f t) →
       Staged room f t d x
   unfolding outcome numberOf
@@ -110,14 +138,14 @@ module _ (room : ℕ) (f : Text) (t : Texts) (d : Text) where
       record { result = e; texts = λ z h. rw (n, w) (stage-texts (fileFirings f (profileOf t)) d₀ l (rw n at h)) }
 
 -- an answer with number 0 is accepted
-pub record Accepts (room : ℕ) (f : Text) (t : Texts) : Type 0 where
+pub record Accepts (room : ℕ) (f : Source) (t : Texts) : Type 0 where
   pub is : answer room f t ≡ accepted (tenTexts f t)
   pub profile : profileRefusals t ≡ []
   pub file : fileRefusals f ≡ []
   pub fits : total (tenTexts f t) ≤ room
   pub low : total (tenTexts f t) ≤ longestTotal
 
-accepts-when : (room : ℕ) (f : Text) (t : Texts) (rs : List Refusal) → refusals room f t ≡ rs → Answered room (firstOf rs (tenTexts f t)) →
+accepts-when : (room : ℕ) (f : Source) (t : Texts) (rs : List Refusal) → refusals room f t ≡ rs → Answered room (firstOf rs (tenTexts f t)) →
     numberOf (firstOf rs (tenTexts f t)) ≡ 0 → Accepts room f t
 unfolding answer refusals firstOf Answered numberOf
 accepts-when room f t [] e a h =
@@ -130,7 +158,7 @@ accepts-when room f t [] e a h =
     }
 accepts-when room f t (r ∷ rs) e a h = absurd (omega (arith, a .0))
 
-pub accepts : (room : ℕ) (f : Text) (t : Texts) (x : Outcome) → x ≡ outcome (answer room f t) → x .number ≡ 0 → Accepts room f t
+pub accepts : (room : ℕ) (f : Source) (t : Texts) (x : Outcome) → x ≡ outcome (answer room f t) → x .number ≡ 0 → Accepts room f t
 unfolding answer outcome
 accepts room f t x e h = accepts-when room f t (refusals room f t) refl (answered room f t) (sym (ap (λ (y : Outcome). y .number) e) ∙ h)
 
@@ -139,7 +167,7 @@ unfolding Low sum
 low-sum [] h = tt
 low-sum (n ∷ ns) h = (omega arith, low-sum ns (omega arith))
 
-module _ (room : ℕ) (f : Text) (t : Texts) (x : Outcome) (is : x ≡ outcome (answer room f t)) (a : Accepts room f t) where
+module _ (room : ℕ) (f : Source) (t : Texts) (x : Outcome) (is : x ≡ outcome (answer room f t)) (a : Accepts room f t) where
   pub lengths-accepted : x .lengths ≡ map length (tenTexts f t)
   unfolding outcome lengthsOf
   lengths-accepted = ap (λ (y : Outcome). y .lengths) is ∙ rw (a .is) refl
@@ -167,17 +195,17 @@ unfolding numberOf bufferAfter
 refused-kept d (refused r) h = refl
 refused-kept d (accepted ts) h = absurd (h refl)
 
-pub buffer-kept : (d f : Text) (t : Texts) (x : Outcome) → x ≡ outcome (answer (length d) f t) → (x .number ≡ 0 → ⊥) → d ≡ bufferAfter d (answer (length d) f t)
+pub buffer-kept : (d : Text) (f : Source) (t : Texts) (x : Outcome) → x ≡ outcome (answer (length d) f t) → (x .number ≡ 0 → ⊥) → d ≡ bufferAfter d (answer (length d) f t)
 unfolding outcome
 buffer-kept d f t x e h = refused-kept d (answer (length d) f t) (λ z. h (ap (λ (y : Outcome). y .number) e ∙ z))
 
 -- an accepted answer leaves the ten texts: copied from a stage,
-pub buffer-copied : (d f : Text) (t : Texts) (x : Outcome) (s d′ : Text) → Staged (length d) f t s x → Accepts (length d) f t → x .number ≡ 0 →
+pub buffer-copied : (d : Text) (f : Source) (t : Texts) (x : Outcome) (s d′ : Text) → Staged (length d) f t s x → Accepts (length d) f t → x .number ≡ 0 →
     inRegions (x .lengths) ≡ true → d′ ≡ bufferAfter d (accepted (textsAt 0 s (x .lengths))) → d′ ≡ bufferAfter d (answer (length d) f t)
 buffer-copied d f t x s d′ v a n h w = w ∙ rw (v .texts n h, a .is) refl
 
 -- or written where they belong
-pub buffer-written : (d f : Text) (t : Texts) (x : Outcome) → x ≡ outcome (answer (length d) f t) → Accepts (length d) f t →
+pub buffer-written : (d : Text) (f : Source) (t : Texts) (x : Outcome) → x ≡ outcome (answer (length d) f t) → Accepts (length d) f t →
     (at : List ℕ) (n : ℕ) (d′ : Text) → at ≡ starts 0 (x .lengths) → n ≡ sum (x .lengths) →
     d′ ≡ runBuf (midOf 0 (n - 0) d) (startingAt at) (fileFirings f (profileOf t)) → d′ ++ postOf 0 (n - 0) d ≡ bufferAfter d (answer (length d) f t)
 unfolding tenTexts

@@ -8,11 +8,11 @@ use borrow.Author.Tests.{ne-eqb}
 use Rattle.text.specs.declared.Refusal.{Refusal}
 use Rattle.text.specs.Bytes.{Text, Words}
 use Rattle.text.specs.Refusals.{refusedIf, refusedAs, firstRefusal}
-use Rattle.text.specs.Lines.{Line}
 use Rattle.text.specs.Reading.{Fenced}
 use Rattle.text.proofs.Readers.{fence-part}
 use Rattle.rules.specs.declared.Present.{Present}
 use Rattle.rules.specs.Entries.{entryOf}
+use Rattle.rules.specs.Sections.{placeOf, Placed}
 use Rattle.rules.specs.Checking.{lineOf, lineFault, presentAfter, namesAfter, checkFrom}
 
 -- the fence in a part of the file
@@ -24,8 +24,8 @@ pub refused-first : (f n : ℕ) (rs : List Refusal) → (f ≡ 0 → ⊥) → fi
 unfolding refusedAs refusedIf firstRefusal
 refused-first f n rs h = rw (ne-eqb f 0 h)
 
-pub check-cons : (ns : List Text) (p : Present) (l : Line) (ls : List Line) → checkFrom ns p (l ∷ ls) ≡
-    refusedAs (lineFault ns p (entryOf l)) (l .number) ++ checkFrom (namesAfter ns (entryOf l)) (presentAfter p (entryOf l)) ls
+pub check-cons : (ns : List Text) (p : Present) (l : Placed) (ls : List Placed) → checkFrom ns p (l ∷ ls) ≡
+    refusedAs (lineFault ns p (l .entry)) (placeOf (l .spot)) ++ checkFrom (namesAfter ns (l .entry)) (presentAfter p (l .entry)) ls
 unfolding checkFrom
 check-cons ns p l ls = refl
 

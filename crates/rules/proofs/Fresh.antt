@@ -15,7 +15,7 @@ use Rattle.text.proofs.Lists.{no, and-both, both-and, nil-left, nil-right}
 use Rattle.rules.specs.Words.{isEquals, isStar, hasDollar, ordinary, isGroupName, leftWord}
 use Rattle.rules.specs.Percent.{malformed}
 use Rattle.rules.specs.Headings.{Heading, hasWord}
-use Rattle.rules.specs.Sections.{Rule, Head, bad, defines, applies, Section}
+use Rattle.rules.specs.Sections.{Spot, placeOf, Rule, Head, bad, defines, applies, ends, Section}
 use Rattle.rules.specs.Faults.{Groups, defined, withGroup, groupsAfter, leftWords, ruleShape, shapeFault, ruleFault, headFaults, faults}
 use Rattle.rules.specs.Names.{namesIn, headNames}
 
@@ -28,6 +28,7 @@ unfoldable pub freshHead : Groups → Head → List Rule → Bool
 freshHead g (bad k) rs = true
 freshHead g (defines n ms) rs = not (defined g n)
 freshHead g (applies h) rs = allOf (λ r. allOf (freshWord g) (leftWords h (r .text))) rs
+freshHead g ends rs = true
 
 unfoldable pub fresh : Groups → List Section → Bool
 fresh g ss = allOf (λ s. freshHead g (s .head) (s .rules)) ss
@@ -44,19 +45,21 @@ unfolding withGroup
 with-beside (bad k) gs g = refl
 with-beside (defines n ms) gs g = refl
 with-beside (applies h) gs g = refl
+with-beside ends gs g = refl
 
 with-length : (h : Head) (gs : Groups) → length gs ≤ length (withGroup h gs)
 unfolding withGroup
 with-length (bad k) gs = omega arith
 with-length (defines n ms) gs = omega arith
 with-length (applies h) gs = omega arith
+with-length ends gs = omega arith
 
 after-length : (gs : Groups) (ss : List Section) → length gs ≤ length (groupsAfter gs ss)
 unfolding groupsAfter
 after-length gs [] = omega arith
 after-length gs (s ∷ ss) = omega (arith, with-length (s .head) gs, after-length (withGroup (s .head) gs) ss)
 
-head-faults-beside : (gs g : Groups) (n : ℕ) (h : Head) (rs : List Rule) → freshHead g h rs ≡ true → length (withGroup h gs) + length g ≤ mostGroups →
+head-faults-beside : (gs g : Groups) (n : Spot) (h : Head) (rs : List Rule) → freshHead g h rs ≡ true → length (withGroup h gs) + length g ≤ mostGroups →
     headFaults (gs ++ g) n h rs ≡ headFaults gs n h rs
 unfolding headFaults freshHead withGroup
 head-faults-beside gs g n (bad k) rs f l = refl
@@ -65,6 +68,7 @@ head-faults-beside gs g n (defines m ms) rs f l =
     let b : length gs < mostGroups = omega arith in
     rw (defined-beside gs g m (not-true _ f), lt-leb mostGroups _ a, lt-leb mostGroups _ b)
 head-faults-beside gs g n (applies h) rs f l = refl
+head-faults-beside gs g n ends rs f l = refl
 
 pub faults-beside : (gs g : Groups) (ss : List Section) → fresh g ss ≡ true → length (groupsAfter gs ss) + length g ≤ mostGroups →
     faults (gs ++ g) ss ≡ faults gs ss
@@ -73,7 +77,7 @@ faults-beside gs g [] f l = refl
 faults-beside gs g (s ∷ ss) f l =
     let b = and-both (freshHead g (s .head) (s .rules)) (fresh g ss) f in
     let w : length (withGroup (s .head) gs) + length g ≤ mostGroups = omega (arith, after-length (withGroup (s .head) gs) ss) in
-    rw (head-faults-beside gs g (s .number) (s .head) (s .rules) (b .0) w, with-beside, faults-beside (withGroup (s .head) gs) g ss (b .1) l)
+    rw (head-faults-beside gs g (s .spot) (s .head) (s .rules) (b .0) w, with-beside, faults-beside (withGroup (s .head) gs) g ss (b .1) l)
 
 -- For accepted sections, naming none of the groups is what document 01 says: no group line and no left word `$name` has one of their names.
 
@@ -141,18 +145,18 @@ rule-left : (h : Heading) (ws : Words) → eqb (ruleFault h ws) 0 ≡ true → a
 unfolding ruleFault leftWords
 rule-left h ws f = shape-left (length (h .columns)) (length (h .components)) (hasWord (h .index)) ws f
 
-fresh-rules : (g : Groups) (h : Heading) (rs : List Rule) → concatMap (λ r. refusedAs (ruleFault h (r .text)) (r .number)) rs ≡ [] →
+fresh-rules : (g : Groups) (h : Heading) (rs : List Rule) → concatMap (λ r. refusedAs (ruleFault h (r .text)) (placeOf (r .spot))) rs ≡ [] →
     unnamed g (concatMap (λ r. namesIn (leftWords h (r .text))) rs) ≡ true → allOf (λ r. allOf (freshWord g) (leftWords h (r .text))) rs ≡ true
 unfolding allOf concatMap
 fresh-rules g h [] f n = refl
 fresh-rules g h (r ∷ rs) f n =
     let b = all-left (λ n. not (anyOf (same n) (map (λ e. e .name) g))) (namesIn (leftWords h (r .text))) (concatMap (λ r. namesIn (leftWords h (r .text))) rs) n in
-    let a = as-none (ruleFault h (r .text)) (r .number) (nil-left _ _ f) in
+    let a = as-none (ruleFault h (r .text)) (placeOf (r .spot)) (nil-left _ _ f) in
     both-and (allOf (freshWord g) (leftWords h (r .text))) _
     (fresh-words g (leftWords h (r .text)) (rule-left h (r .text) a) (b .0))
-    (fresh-rules g h rs (nil-right (refusedAs (ruleFault h (r .text)) (r .number)) _ f) (b .1))
+    (fresh-rules g h rs (nil-right (refusedAs (ruleFault h (r .text)) (placeOf (r .spot))) _ f) (b .1))
 
-fresh-head : (gs g : Groups) (n : ℕ) (h : Head) (rs : List Rule) → headFaults gs n h rs ≡ [] → unnamed g (headNames h rs) ≡ true → freshHead g h rs ≡ true
+fresh-head : (gs g : Groups) (n : Spot) (h : Head) (rs : List Rule) → headFaults gs n h rs ≡ [] → unnamed g (headNames h rs) ≡ true → freshHead g h rs ≡ true
 unfolding headFaults headNames freshHead allOf
 fresh-head gs g n (bad k) rs f u = refl
 fresh-head gs g n (defines m ms) rs f u = go u
@@ -160,6 +164,7 @@ fresh-head gs g n (defines m ms) rs f u = go u
     go : unnamed g (m ∷ []) ≡ true → not (defined g m) ≡ true
     go k = rw (sym (defined-named g m)) (and-both (not (anyOf (same m) (map (λ e. e .name) g))) true k .0)
 fresh-head gs g n (applies h) rs f u = fresh-rules g h rs f u
+fresh-head gs g n ends rs f u = refl
 
 pub fresh-named : (gs g : Groups) (ss : List Section) → faults gs ss ≡ [] →
     apart (concatMap (λ s. headNames (s .head) (s .rules)) ss) (map (λ e. e .name) g) ≡ true → fresh g ss ≡ true
@@ -168,5 +173,5 @@ fresh-named gs g [] f u = refl
 fresh-named gs g (s ∷ ss) f u =
     let b = all-left (λ n. not (anyOf (same n) (map (λ e. e .name) g))) (headNames (s .head) (s .rules)) (concatMap (λ s. headNames (s .head) (s .rules)) ss) u in
     both-and (freshHead g (s .head) (s .rules)) (fresh g ss)
-    (fresh-head gs g (s .number) (s .head) (s .rules) (nil-left _ _ f) (b .0))
-    (fresh-named (withGroup (s .head) gs) g ss (nil-right (headFaults gs (s .number) (s .head) (s .rules)) _ f) (b .1))
+    (fresh-head gs g (s .spot) (s .head) (s .rules) (nil-left _ _ f) (b .0))
+    (fresh-named (withGroup (s .head) gs) g ss (nil-right (headFaults gs (s .spot) (s .head) (s .rules)) _ f) (b .1))

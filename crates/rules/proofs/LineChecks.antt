@@ -1,4 +1,4 @@
--- The check line by line gives the refusals of a file and the names of its groups.
+-- Judged line by line, a text has its refusals.
 use Prim.Native.Nat.{ℕ}
 use mathlib.Core.Path.{_≡_, refl, sym, _∙_}
 use mathlib.Core.List.{List, [], _∷_, _++_, map}
@@ -8,17 +8,18 @@ use lib.ListN.{length}
 use lib.Dec.{eqb}
 use borrow.Author.Tests.{eqb-true}
 use Rattle.text.specs.declared.Refusal.{Refusal}
-use Rattle.text.specs.Bytes.{Text, Words, same, anyOf}
+use Rattle.text.specs.Bytes.{Text, Words, same, allOf, anyOf}
 use Rattle.text.specs.Refusals.{refusedIf, refusedAs, isNumber}
-use Rattle.text.specs.Lines.{Line, lines}
-use Rattle.text.proofs.Lists.{no}
+use Rattle.text.proofs.Lists.{no, and-both}
 use Rattle.rules.specs.declared.Present.{Present}
 use Rattle.rules.specs.declared.Index.{Index}
 use Rattle.rules.specs.Headings.{Heading, hasWord}
-use Rattle.rules.specs.Entries.{Entry, ignored, wrong, group, set, rule, entryOf}
+use Rattle.rules.specs.Entries.{Entry, ignored, wrong, group, set, rule, include}
+use Rattle.rules.specs.Sections.{Spot, placeOf, Placed}
+use Rattle.rules.specs.Written.{Source, writtenOut}
 use Rattle.rules.specs.Faults.{Groups, defined, ruleFault, lineFaults}
 use Rattle.rules.specs.Checking.{noHeading, formOf, presentOf, presentFault, lineFault, presentAfter, namesAfter, checkFrom}
-use Rattle.rules.proofs.Numbers.{goodEntry, entry-good}
+use Rattle.rules.proofs.Numbers.{goodEntry, goodLine, text-good}
 use Rattle.rules.proofs.LineByLine.{ruleFaults, faultsFrom, nextFaults, faults-line, faults-none, faults-start}
 
 unfoldable pub presentBy : Option Heading → Present
@@ -36,7 +37,7 @@ form-is i = go (hasWord i)
     go true = (refl, refl)
     go false = (refl, refl)
 
-rule-by : (h : Option Heading) (n : ℕ) (ws : Words) → ruleFaults h n ws ≡ refusedAs (presentFault (presentBy h) ws) n
+rule-by : (h : Option Heading) (n : Spot) (ws : Words) → ruleFaults h n ws ≡ refusedAs (presentFault (presentBy h) ws) (placeOf n)
 unfolding ruleFaults presentFault presentBy presentOf ruleFault refusedAs refusedIf
 rule-by none n ws = refl
 rule-by (some h) n ws = rw (form-is (h .index) .0, form-is (h .index) .1)
@@ -71,24 +72,25 @@ none-refused : (rs : List Refusal) (n : ℕ) → rs ≡ refusedAs 0 n ++ rs
 unfolding refusedAs refusedIf
 none-refused rs n = refl
 
-next-checked : (gs : Groups) (h : Option Heading) (n : ℕ) (e : Entry) (ls : List Line) → goodEntry e ≡ true →
+next-checked : (gs : Groups) (h : Option Heading) (n : Spot) (e : Entry) (ls : List Placed) → goodEntry e ≡ true →
     ((gs′ : Groups) (h′ : Option Heading) → faultsFrom gs′ h′ ls ≡ checkFrom (namesIn gs′) (presentBy h′) ls) →
-    nextFaults gs h n e ls ≡ refusedAs (lineFault (namesIn gs) (presentBy h) e) n ++ checkFrom (namesAfter (namesIn gs) e) (presentAfter (presentBy h) e) ls
+    nextFaults gs h n e ls ≡ refusedAs (lineFault (namesIn gs) (presentBy h) e) (placeOf n) ++ checkFrom (namesAfter (namesIn gs) e) (presentAfter (presentBy h) e) ls
 unfolding nextFaults lineFault presentAfter namesAfter goodEntry presentBy
-next-checked gs h n ignored ls g ih = ih gs h ∙ none-refused (checkFrom (namesIn gs) (presentBy h) ls) n
-next-checked gs h n (wrong k) ls g ih = rw (as-wrong k n g, ih gs none)
+next-checked gs h n ignored ls g ih = ih gs h ∙ none-refused (checkFrom (namesIn gs) (presentBy h) ls) (placeOf n)
+next-checked gs h n (wrong k) ls g ih = rw (as-wrong k (placeOf n) g, ih gs none)
 next-checked gs h n (group m ms) ls g ih =
     rw (ih (record { name = m; members = ms } ∷ gs) none, defined-names gs m, if-as, names-length gs)
-next-checked gs h n (set h′) ls g ih = ih gs (some h′) ∙ none-refused (checkFrom (namesIn gs) (presentOf h′) ls) n
+next-checked gs h n (set h′) ls g ih = ih gs (some h′) ∙ none-refused (checkFrom (namesIn gs) (presentOf h′) ls) (placeOf n)
 next-checked gs h n (rule ws) ls g ih = rw (rule-by h n ws, ih gs h)
+next-checked gs h n (include w) ls g ih = ih gs none ∙ none-refused (checkFrom (namesIn gs) noHeading ls) (placeOf n)
 
-pub faults-checked : (gs : Groups) (h : Option Heading) (ls : List Line) → faultsFrom gs h ls ≡ checkFrom (namesIn gs) (presentBy h) ls
-unfolding checkFrom
-faults-checked gs h [] = faults-none gs h
-faults-checked gs h (l ∷ ls) = faults-line gs h l ls ∙ next-checked gs h (l .number) (entryOf l) ls (entry-good l) (λ gs′ h′. faults-checked gs′ h′ ls)
+pub faults-checked : (gs : Groups) (h : Option Heading) (ls : List Placed) → allOf goodLine ls ≡ true → faultsFrom gs h ls ≡ checkFrom (namesIn gs) (presentBy h) ls
+unfolding checkFrom allOf goodLine
+faults-checked gs h [] g = faults-none gs h
+faults-checked gs h (l ∷ ls) g =
+    let w = and-both (goodEntry (l .entry)) (allOf goodLine ls) g in
+    faults-line gs h l ls ∙ next-checked gs h (l .spot) (l .entry) ls (w .0) (λ gs′ h′. faults-checked gs′ h′ ls (w .1))
 
-pub lines-checked : (f : Text) → lineFaults f ≡ checkFrom [] noHeading (lines f)
+pub lines-checked : (x : Source) → lineFaults x ≡ checkFrom [] noHeading (writtenOut x)
 unfolding presentBy
-lines-checked f = faults-start f ∙ faults-checked [] none (lines f)
-
--- the names of the groups
+lines-checked x = faults-start x ∙ faults-checked [] none (writtenOut x) (text-good x)

@@ -12,7 +12,7 @@ use Rattle.text.specs.Words.{wordsFault}
 use Rattle.rules.specs.declared.Tally.{Tally}
 use Rattle.rules.specs.Words.{isEquals, hasDollar}
 use Rattle.rules.specs.Headings.{leftItem, componentOf, goodItems, headingOf}
-use Rattle.rules.specs.Entries.{ignored, wrong, set, rule, before, after, setShape, setEntry, groupEntry, headingEntry, ruleEntry, entryOf}
+use Rattle.rules.specs.Entries.{ignored, wrong, set, rule, before, after, setShape, setEntry, groupEntry, includeEntry, headingEntry, ruleEntry, entryOf}
 use Rattle.rules.specs.Splitting.{Tallied}
 use Rattle.rules.specs.Checking.{lineOf}
 use Rattle.rules.proofs.Sides.{before-low}
@@ -81,7 +81,7 @@ heading-none [] h = refl
 heading-none (w ∷ ws) h = absurd (omega arith)
 
 heading-words : (ws : Words) → 0 < length ws → headingEntry ws ≡
-    cond (hasDollar (getD ws 0 [])) (groupEntry (getD ws 0 []) (drop 1 ws)) (cond (same (getD ws 0 []) (bytes "include")) (wrong 9) (setEntry ws))
+    cond (hasDollar (getD ws 0 [])) (groupEntry (getD ws 0 []) (drop 1 ws)) (cond (same (getD ws 0 []) (bytes "include")) (includeEntry (drop 1 ws)) (setEntry ws))
 unfolding headingEntry
 heading-words [] h = absurd (omega arith)
 heading-words (w ∷ ws) h = refl
@@ -90,7 +90,7 @@ module _ (ws : Words) (h : 0 < length ws) where
   pub heading-group : hasDollar (getD ws 0 []) ≡ true → headingEntry ws ≡ groupEntry (getD ws 0 []) (drop 1 ws)
   heading-group d = heading-words ws h ∙ rw d
 
-  pub heading-include : hasDollar (getD ws 0 []) ≡ false → same (getD ws 0 []) (bytes "include") ≡ true → headingEntry ws ≡ wrong 9
+  pub heading-include : hasDollar (getD ws 0 []) ≡ false → same (getD ws 0 []) (bytes "include") ≡ true → headingEntry ws ≡ includeEntry (drop 1 ws)
   heading-include d i = heading-words ws h ∙ rw (d, i)
 
   pub heading-set : hasDollar (getD ws 0 []) ≡ false → same (getD ws 0 []) (bytes "include") ≡ false → headingEntry ws ≡ setEntry ws

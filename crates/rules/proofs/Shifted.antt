@@ -1,21 +1,19 @@
--- Lines whose numbers are shifted: their sections and faults are the same, shifted.
-use Prim.Native.Nat.{ℕ, _+_}
-use mathlib.Core.Path.{_≡_, refl, ap}
-use mathlib.Core.List.{List, [], _∷_, map}
+-- Lines at other places: their sections are the same but for the places, and none is refused where none was.
+use Prim.Native.Nat.{ℕ}
+use mathlib.Core.Path.{_≡_, refl, sym, ap, _∙_}
+use mathlib.Core.List.{List, [], _∷_, _++_, map}
 use mathlib.Core.Bool.{Bool, true, false, not}
 use lib.Dec.{eqb}
 use Rattle.text.specs.declared.Refusal.{Refusal}
 use Rattle.text.specs.Bytes.{concatMap}
 use Rattle.text.specs.Refusals.{refusedIf, refusedAs}
-use Rattle.text.specs.Lines.{Line}
 use Rattle.text.proofs.Lists.{map-append}
-use Rattle.text.proofs.Joined.{shifted}
 use Rattle.rules.specs.Headings.{Heading}
-use Rattle.rules.specs.Entries.{Entry, ignored, wrong, group, set, rule, entryOf}
-use Rattle.rules.specs.Sections.{Rule, Head, bad, defines, applies, Section, Sections, addEntry, sections}
+use Rattle.rules.specs.Entries.{Entry, ignored, wrong, group, set, rule, include}
+use Rattle.rules.specs.Sections.{Spot, placeOf, Placed, Rule, Head, bad, defines, applies, ends, Section, Sections, addEntry, sections}
 use Rattle.rules.specs.Faults.{Groups, withGroup, ruleFault, orphans, headFaults, faults}
 
-pub sections-cons : (l : Line) (ls : List Line) → sections (l ∷ ls) ≡ addEntry (l .number) (entryOf l) (sections ls)
+pub sections-cons : (l : Placed) (ls : List Placed) → sections (l ∷ ls) ≡ addEntry (l .spot) (l .entry) (sections ls)
 unfolding sections
 sections-cons l ls = refl
 
@@ -23,73 +21,94 @@ pub sections-nil : sections [] ≡ ([], [])
 unfolding sections
 sections-nil = refl
 
-unfoldable pub shiftRule : ℕ → Rule → Rule
-shiftRule k r = record { number = r .number + k; text = r .text }
+-- moved to other places
+abbrev pub Move : Type 0
+Move = Spot → Spot
 
-unfoldable pub shiftSection : ℕ → Section → Section
-shiftSection k s = record { number = s .number + k; head = s .head; rules = map (shiftRule k) (s .rules) }
+unfoldable pub movedLine : Move → Placed → Placed
+movedLine m l = record { spot = m (l .spot); entry = l .entry }
 
-unfoldable pub shiftRefusal : ℕ → Refusal → Refusal
-shiftRefusal k r = record { number = r .number; place = r .place + k }
+unfoldable pub movedRule : Move → Rule → Rule
+movedRule m r = record { spot = m (r .spot); text = r .text }
+
+unfoldable pub movedSection : Move → Section → Section
+movedSection m s = record { spot = m (s .spot); head = s .head; rules = map (movedRule m) (s .rules) }
 
 -- sections
 
-shift-add : (k n : ℕ) (e : Entry) (s : Sections) →
-    addEntry (n + k) e (map (shiftRule k) (s .0), map (shiftSection k) (s .1)) ≡ (map (shiftRule k) (addEntry n e s .0), map (shiftSection k) (addEntry n e s .1))
-unfolding addEntry shiftSection shiftRule
-shift-add k n ignored s = refl
-shift-add k n (wrong j) s = refl
-shift-add k n (group g ms) s = refl
-shift-add k n (set h) s = refl
-shift-add k n (rule ws) s = refl
+move-add : (m : Move) (n : Spot) (e : Entry) (s : Sections) →
+    addEntry (m n) e (map (movedRule m) (s .0), map (movedSection m) (s .1)) ≡ (map (movedRule m) (addEntry n e s .0), map (movedSection m) (addEntry n e s .1))
+unfolding addEntry movedSection movedRule
+move-add m n ignored s = refl
+move-add m n (wrong j) s = refl
+move-add m n (group g ms) s = refl
+move-add m n (set h) s = refl
+move-add m n (rule ws) s = refl
+move-add m n (include w) s = refl
 
-entry-shift : (k : ℕ) (l : Line) → entryOf (shifted k l) ≡ entryOf l
-unfolding entryOf shifted
-entry-shift k l = refl
+pub sections-moved : (m : Move) (a : List Placed) → sections (map (movedLine m) a) ≡ (map (movedRule m) (sections a .0), map (movedSection m) (sections a .1))
+unfolding movedLine
+sections-moved m [] = rw sections-nil
+sections-moved m (l ∷ a) =
+    rw (sections-cons l a, sections-cons (movedLine m l) (map (movedLine m) a), sections-moved m a)
+    (move-add m (l .spot) (l .entry) (sections a))
 
-shifted-number : (k : ℕ) (l : Line) → shifted k l .number ≡ l .number + k
-unfolding shifted
-shifted-number k l = refl
+-- faults, by their numbers
 
-pub sections-shift : (k : ℕ) (a : List Line) → sections (map (shifted k) a) ≡ (map (shiftRule k) (sections a .0), map (shiftSection k) (sections a .1))
-sections-shift k [] = rw sections-nil
-sections-shift k (l ∷ a) =
-    rw (sections-cons l a, sections-cons (shifted k l) (map (shifted k) a), entry-shift, shifted-number, sections-shift k a)
-    (shift-add k (l .number) (entryOf l) (sections a))
+unfoldable numbersOf : List Refusal → List ℕ
+numbersOf rs = map (λ (r : Refusal). r .number) rs
 
--- the groups that shifted sections define are the same
+numbers-append : (a b : List Refusal) → numbersOf (a ++ b) ≡ numbersOf a ++ numbersOf b
+unfolding numbersOf
+numbers-append a b = map-append (λ (r : Refusal). r .number) a b
 
--- faults
+if-moved : (t : Bool) (n p q : ℕ) → numbersOf (refusedIf t n p) ≡ numbersOf (refusedIf t n q)
+unfolding refusedIf numbersOf
+if-moved true n p q = refl
+if-moved false n p q = refl
 
-if-shift : (k : ℕ) (t : Bool) (n p : ℕ) → refusedIf t n (p + k) ≡ map (shiftRefusal k) (refusedIf t n p)
-unfolding refusedIf shiftRefusal
-if-shift k true n p = refl
-if-shift k false n p = refl
-
-as-shift : (k n p : ℕ) → refusedAs n (p + k) ≡ map (shiftRefusal k) (refusedAs n p)
+as-moved : (n p q : ℕ) → numbersOf (refusedAs n p) ≡ numbersOf (refusedAs n q)
 unfolding refusedAs
-as-shift k n p = if-shift k (not (eqb n 0)) n p
+as-moved n p q = if-moved (not (eqb n 0)) n p q
 
-orphans-shift : (k : ℕ) (rs : List Rule) → orphans (map (shiftRule k) rs) ≡ map (shiftRefusal k) (orphans rs)
-unfolding orphans shiftRule shiftRefusal
-orphans-shift k [] = refl
-orphans-shift k (r ∷ rs) = ap (λ (l : List Refusal). record { number = 6; place = r .number + k } ∷ l) (orphans-shift k rs)
+orphans-moved : (m : Move) (rs : List Rule) → numbersOf (orphans (map (movedRule m) rs)) ≡ numbersOf (orphans rs)
+unfolding orphans movedRule numbersOf
+orphans-moved m [] = refl
+orphans-moved m (r ∷ rs) = ap (λ (l : List ℕ). 6 ∷ l) (orphans-moved m rs)
 
-rules-shift : (k : ℕ) (h : Heading) (rs : List Rule) →
-    concatMap (λ r. refusedAs (ruleFault h (r .text)) (r .number)) (map (shiftRule k) rs) ≡
-    map (shiftRefusal k) (concatMap (λ r. refusedAs (ruleFault h (r .text)) (r .number)) rs)
-unfolding concatMap shiftRule
-rules-shift k h [] = refl
-rules-shift k h (r ∷ rs) = rw (rules-shift k h rs, as-shift k (ruleFault h (r .text)) (r .number), map-append)
+rules-moved : (m : Move) (h : Heading) (rs : List Rule) →
+    numbersOf (concatMap (λ r. refusedAs (ruleFault h (r .text)) (placeOf (r .spot))) (map (movedRule m) rs)) ≡
+    numbersOf (concatMap (λ r. refusedAs (ruleFault h (r .text)) (placeOf (r .spot))) rs)
+unfolding concatMap movedRule
+rules-moved m h [] = refl
+rules-moved m h (r ∷ rs) =
+    numbers-append (refusedAs (ruleFault h (r .text)) (placeOf (m (r .spot)))) _
+    ∙ rw (as-moved (ruleFault h (r .text)) (placeOf (m (r .spot))) (placeOf (r .spot)), rules-moved m h rs)
+    (sym (numbers-append (refusedAs (ruleFault h (r .text)) (placeOf (r .spot))) _))
 
-head-faults-shift : (gs : Groups) (k n : ℕ) (h : Head) (rs : List Rule) →
-    headFaults gs (n + k) h (map (shiftRule k) rs) ≡ map (shiftRefusal k) (headFaults gs n h rs)
-unfolding headFaults shiftRefusal
-head-faults-shift gs k n (bad j) rs = rw orphans-shift
-head-faults-shift gs k n (defines g ms) rs = rw (orphans-shift, if-shift, map-append)
-head-faults-shift gs k n (applies h) rs = rules-shift k h rs
+head-faults-moved : (gs : Groups) (m : Move) (n : Spot) (h : Head) (rs : List Rule) →
+    numbersOf (headFaults gs (m n) h (map (movedRule m) rs)) ≡ numbersOf (headFaults gs n h rs)
+unfolding headFaults numbersOf
+head-faults-moved gs m n (bad j) rs = ap (λ (l : List ℕ). j ∷ l) (orphans-moved m rs)
+head-faults-moved gs m n (defines g ms) rs =
+    numbers-append (refusedIf _ 10 (placeOf (m n))) (orphans (map (movedRule m) rs))
+    ∙ rw (if-moved _ 10 (placeOf (m n)) (placeOf n), orphans-moved m rs) (sym (numbers-append (refusedIf _ 10 (placeOf n)) (orphans rs)))
+head-faults-moved gs m n (applies h) rs = rules-moved m h rs
+head-faults-moved gs m n ends rs = orphans-moved m rs
 
-pub faults-shift : (gs : Groups) (k : ℕ) (ss : List Section) → faults gs (map (shiftSection k) ss) ≡ map (shiftRefusal k) (faults gs ss)
-unfolding faults shiftSection
-faults-shift gs k [] = refl
-faults-shift gs k (s ∷ ss) = rw (head-faults-shift gs k (s .number) (s .head) (s .rules), faults-shift (withGroup (s .head) gs) k ss, map-append)
+faults-moved : (gs : Groups) (m : Move) (ss : List Section) → numbersOf (faults gs (map (movedSection m) ss)) ≡ numbersOf (faults gs ss)
+unfolding faults movedSection
+faults-moved gs m [] = refl
+faults-moved gs m (s ∷ ss) =
+    numbers-append (headFaults gs (m (s .spot)) (s .head) (map (movedRule m) (s .rules))) _
+    ∙ rw (head-faults-moved gs m (s .spot) (s .head) (s .rules), faults-moved (withGroup (s .head) gs) m ss)
+    (sym (numbers-append (headFaults gs (s .spot) (s .head) (s .rules)) _))
+
+none-numbered : (rs : List Refusal) → numbersOf rs ≡ [] → rs ≡ []
+unfolding numbersOf
+none-numbered [] h = refl
+none-numbered (r ∷ rs) h = cc
+
+pub none-moved : (gs : Groups) (m : Move) (ss : List Section) → faults gs ss ≡ [] → faults gs (map (movedSection m) ss) ≡ []
+unfolding numbersOf
+none-moved gs m ss h = none-numbered (faults gs (map (movedSection m) ss)) (faults-moved gs m ss ∙ rw h)

@@ -15,7 +15,8 @@ use Rattle.rules.specs.declared.SetHeading.{SetHeading}
 use Rattle.rules.specs.Words.{ordinary}
 use Rattle.rules.specs.Percent.{malformed}
 use Rattle.rules.specs.Headings.{Heading, hasWord}
-use Rattle.rules.specs.Entries.{Entry, ignored, wrong, group, set as setOf, rule, entryOf}
+use Rattle.rules.specs.Entries.{Entry, ignored, wrong, group, set as setOf, rule, include}
+use Rattle.rules.specs.Sections.{placeOf, Placed}
 use Rattle.rules.specs.Faults.{shapeFault}
 
 abbrev pub lineOf : ℕ → Bool → Words → Line
@@ -50,6 +51,7 @@ lineFault ns p (wrong k) = k
 lineFault ns p (group g ms) = cond (anyOf (same g) ns || leb mostGroups (length ns)) 10 0
 lineFault ns p (setOf h) = 0
 lineFault ns p (rule ws) = presentFault p ws
+lineFault ns p (include w) = 0
 
 -- what is carried on
 unfoldable pub presentAfter : Present → Entry → Present
@@ -58,6 +60,7 @@ presentAfter p (wrong k) = noHeading
 presentAfter p (group g ms) = noHeading
 presentAfter p (setOf h) = presentOf h
 presentAfter p (rule ws) = p
+presentAfter p (include w) = noHeading
 
 unfoldable pub namesAfter : List Text → Entry → List Text
 namesAfter ns ignored = ns
@@ -65,8 +68,9 @@ namesAfter ns (wrong k) = ns
 namesAfter ns (group g ms) = g ∷ ns
 namesAfter ns (setOf h) = ns
 namesAfter ns (rule ws) = ns
+namesAfter ns (include w) = ns
 
-unfoldable pub checkFrom : List Text → Present → List Line → List Refusal
+unfoldable pub checkFrom : List Text → Present → List Placed → List Refusal
 checkFrom ns p [] = []
 checkFrom ns p (l ∷ ls) =
-    refusedAs (lineFault ns p (entryOf l)) (l .number) ++ checkFrom (namesAfter ns (entryOf l)) (presentAfter p (entryOf l)) ls
+    refusedAs (lineFault ns p (l .entry)) (placeOf (l .spot)) ++ checkFrom (namesAfter ns (l .entry)) (presentAfter p (l .entry)) ls

@@ -1,4 +1,4 @@
--- What a line is by itself. Document 01, "Lines and words", and refusals 4 to 7 and 9.
+-- What a line is by itself. Document 01, "Lines and words", and refusals 4 to 7; document 02, #101, for include lines.
 use Prim.Native.Nat.{ℕ}
 use mathlib.Core.List.{[], _∷_, map}
 use mathlib.Core.Bool.{Bool, not, _&&_, cond}
@@ -9,13 +9,14 @@ use Rattle.text.specs.Words.{wordsFault}
 use Rattle.rules.specs.Words.{isEquals, hasDollar, ordinary, isGroupName}
 use Rattle.rules.specs.Headings.{Heading, leftItem, componentOf, goodItems, headingOf}
 
--- nothing; a refusal that the line alone decides; a group with its words; the heading of a set; a rule
+-- nothing; a refusal that the line alone decides; a group with its words; the heading of a set; a rule; an include line with its path
 pub data Entry : Type 0 where
   ignored : Entry
   wrong : ℕ → Entry
   group : Text → Words → Entry
   set : Heading → Entry
   rule : Words → Entry
+  include : Text → Entry
 
 -- the words before the first `=`, and those after it
 unfoldable pub before : Words → Words
@@ -41,10 +42,16 @@ unfoldable pub groupEntry : Text → Words → Entry
 groupEntry n [] = wrong 6
 groupEntry n (e ∷ ws) = cond (isGroupName n && (isEquals e && allOf ordinary ws)) (group (rest n) ws) (wrong 6)
 
--- "A heading without words is refused as 6". "heading that begins with a `$` word and is no group line": 6. "heading whose first word is `include`": 9
+-- #101: "6 unless one word follows `include`"
+unfoldable pub includeEntry : Words → Entry
+includeEntry [] = wrong 6
+includeEntry (w ∷ []) = include w
+includeEntry (w ∷ v ∷ ws) = wrong 6
+
+-- "A heading without words is refused as 6". "heading that begins with a `$` word and is no group line": 6. A heading whose first word is `include`
 unfoldable pub headingEntry : Words → Entry
 headingEntry [] = wrong 6
-headingEntry (w ∷ ws) = cond (hasDollar w) (groupEntry w ws) (cond (same w (bytes "include")) (wrong 9) (setEntry (w ∷ ws)))
+headingEntry (w ∷ ws) = cond (hasDollar w) (groupEntry w ws) (cond (same w (bytes "include")) (includeEntry ws) (setEntry (w ∷ ws)))
 
 -- "any other line without words is ignored"
 unfoldable pub ruleEntry : Words → Entry

@@ -3,6 +3,7 @@ pub mod Percent
 pub mod Headings
 pub mod Entries
 pub mod Sections
+pub mod Written
 pub mod Faults
 pub mod Names
 pub mod Splitting

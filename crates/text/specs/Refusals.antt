@@ -18,9 +18,9 @@ unfoldable pub firstRefusal : List Refusal → Refusal
 firstRefusal [] = record { number = 0; place = 0 }
 firstRefusal (r ∷ rs) = r
 
--- the numbers of document 01
+-- the numbers of documents 01 and 02 that a resolve may have
 unfoldable pub isNumber : ℕ → Bool
-isNumber n = leb 1 n && leb n 11
+isNumber n = leb 1 n && leb n 15
 
 unfoldable pub hasNumber : Refusal → Bool
 hasNumber r = isNumber (r .number)

@@ -10,17 +10,16 @@ use borrow.Author.Tests.{lt-ltb, le-ltb, ltb-true, ltb-false, lt-leb}
 use Rattle.text.specs.declared.Refusal.{Refusal}
 use Rattle.text.specs.Limits.{longestFile, longestTotal}
 use Rattle.text.specs.Bytes.{Text}
-use Rattle.text.specs.Lines.{crlf, noReturn}
 use Rattle.text.specs.Refusals.{refusedIf}
 use Rattle.text.proofs.Lists.{nil-right}
 use Rattle.profile.specs.Profile.{Texts}
 use Rattle.profile.specs.Options.{Alike, Within, withOptions}
 use Rattle.profile.proofs.Options.{same-profile, same-refusals}
 use Rattle.profile.proofs.Counts.{untested}
+use Rattle.rules.specs.Written.{Source}
 use Rattle.answers.specs.Answer.{tenTexts, sum, total, refusals, Answer, refused, accepted, firstOf, answer, lengthsOf, stretchStart, stretchLength, Answered}
 use Rattle.answers.proofs.Answers.{accepted-first, answered}
 use Rattle.answers.proofs.Accepted.{texts-fit}
-use Rattle.answers.proofs.LineEnds.{crlf-texts, crlf-refusals}
 use Rattle.xkbrules.specs.Sheet.{sheetLength, entryRefusals, entryAnswer, sheetAfter, lengthsIn, componentCode}
 use Rattle.xkbrules.proofs.Sheet.{sheet-lengths, sheet-later, sheet-long}
 
@@ -30,7 +29,7 @@ unfolding firstOf
 refused-append [] qs ts r h = cc
 refused-append (q ∷ rs) qs ts r h = h
 
-module _ (room sheet : ℕ) (f : Text) (t : Texts) where
+module _ (room sheet : ℕ) (f : Source) (t : Texts) where
   pub entry-same : sheetLength ≤ sheet → entryAnswer room sheet f t ≡ answer room f t
   unfolding entryAnswer entryRefusals answer refusedIf
   entry-same h = rw (le-ltb sheet sheetLength h, append-nil (refusals room f t))
@@ -71,7 +70,7 @@ module _ (room sheet : ℕ) (f : Text) (t : Texts) where
 
 -- the sheet after an accepted answer
 
-module _ (room : ℕ) (s f : Text) (t : Texts) (ts : List Text) (h : entryAnswer room (length s) f t ≡ accepted ts) where
+module _ (room : ℕ) (s : Text) (f : Source) (t : Texts) (ts : List Text) (h : entryAnswer room (length s) f t ≡ accepted ts) where
   abbrev fit : (length ts ≡ 10) × (total ts ≤ room) × (total ts ≤ longestTotal)
   fit = texts-fit room f t ts (entry-accepted room (length s) f t ts h)
 
@@ -99,11 +98,7 @@ module _ (room : ℕ) (s f : Text) (t : Texts) (ts : List Text) (h : entryAnswer
         lt-leb (2 ^ 32) (sum (map length ts)) (omega (arith, fit .2)),
       )
 
-pub entry-options : (room sheet : ℕ) (f : Text) (t : Texts) (o o′ : Text) → Alike o o′ → Within o → Within o′ →
+pub entry-options : (room sheet : ℕ) (f : Source) (t : Texts) (o o′ : Text) → Alike o o′ → Within o → Within o′ →
     entryAnswer room sheet f (withOptions t o) ≡ entryAnswer room sheet f (withOptions t o′)
 unfolding entryAnswer entryRefusals refusals tenTexts
 entry-options room sheet f t o o′ h w w′ = rw (same-refusals t o o′ h w w′, same-profile t o o′ h)
-
-pub entry-lines : (room sheet : ℕ) (f : Text) (t : Texts) → noReturn f ≡ true → length (crlf f) ≤ longestFile → entryAnswer room sheet (crlf f) t ≡ entryAnswer room sheet f t
-unfolding entryAnswer entryRefusals
-entry-lines room sheet f t h l = rw (crlf-refusals f t h l room, crlf-texts f t h l)

@@ -2,14 +2,17 @@
 use Prim.Native.Nat.{ℕ, _+_, _*_, _^_, _≤_, _<_}
 use native.Mathlib.Omega.{arith}
 use mathlib.Core.Path.{_≡_, refl, sym, ap, _∙_}
+use mathlib.Core.Bool.{true}
 use mathlib.Core.List.{_++_}
 use lib.ListN.{length, drop}
 use Rattle.text.specs.Bytes.{Text, concatMap}
 use Rattle.profile.specs.Profile.{Texts}
+use Rattle.bundle.specs.Bundle.{filesOf, whole}
+use Rattle.rules.specs.Written.{Source}
 use Rattle.answers.specs.declared.Outcome.{Outcome}
 use Rattle.answers.specs.Answer.{Answer, refused, accepted, answer, numberOf, placeOf, lengthsOf, outcome, bufferAfter, Answered}
 use Rattle.answers.proofs.Answers.{answered}
-use Rattle.answers.proofs.Places.{number-low, place-low}
+use Rattle.answers.proofs.Places.{most, number-low, place-low}
 use Rattle.xkbrules.specs.Sheet.{sheetLength, littleEndian, entryAnswer, code, sheetAfter}
 use Rattle.xkbrules.proofs.Entry.{entry-same, entry-refused, entry-short}
 
@@ -17,7 +20,7 @@ use Rattle.xkbrules.proofs.Entry.{entry-same, entry-refused, entry-shor
 abbrev Entered : Text → Text → Text → Text → ℕ → Answer → Type 0
 Entered d s d′ s′ n a = (n ≡ code a) × (d′ ≡ bufferAfter d a) × (s′ ≡ sheetAfter s a)
 
-module _ (d f : Text) (t : Texts) (o : Outcome) (found : o ≡ outcome (answer (length d) f t)) where
+module _ (d : Text) (f : Source) (t : Texts) (o : Outcome) (found : o ≡ outcome (answer (length d) f t)) where
   number : o .number ≡ numberOf (answer (length d) f t)
   unfolding outcome
   number = ap (λ (x : Outcome). x .number) found
@@ -30,8 +33,10 @@ module _ (d f : Text) (t : Texts) (o : Outcome) (found : o ≡ outcome (answer (
   unfolding outcome
   lengths = ap (λ (x : Outcome). x .lengths) found
 
-  pub packs : (o .number ≤ 11) × (o .place ≤ 65537)
-  packs = (rw number (number-low (length d) f t), rw place (place-low (length d) f t))
+  pub packs : (whole (f .bundle) ≡ true → length (filesOf (f .bundle)) ≤ 65535) → (o .number ≤ 15) × (o .place < 2 ^ 48)
+  packs few =
+      let l : placeOf (answer (length d) f t) ≤ most = place-low (length d) f t few in
+      (rw number (number-low (length d) f t), rw place (omega arith))
 
   module _ (s : Text) where
     -- a refusal of the resolve

@@ -8,6 +8,7 @@ use Rattle.text.specs.declared.Refusal.{Refusal}
 use Rattle.text.specs.Bytes.{Text, concatMap}
 use Rattle.text.specs.Refusals.{refusedIf}
 use Rattle.profile.specs.Profile.{Texts}
+use Rattle.rules.specs.Written.{Source}
 use Rattle.answers.specs.Answer.{tenTexts, refusals, Answer, refused, accepted, firstOf, numberOf, placeOf, sum, stretchStart, stretchLength}
 
 -- "the ten lengths are written as little-endian 32-bit numbers into the first 40 bytes of a lent sheet"
@@ -17,11 +18,14 @@ sheetLength = 40
 unfoldable pub littleEndian : ℕ → Text
 littleEndian x = x % 256 ∷ x / 256 % 256 ∷ x / 65536 % 256 ∷ x / 16777216 % 256 ∷ []
 
+abbrev pub sourceOf : Text → Text → Text → Text → Source
+sourceOf b h e s = record { bundle = b; home = h; extra = e; system = s }
+
 -- 11 also for "a C length sheet under 40 bytes", and last; `sheet` is the sheet's length
-unfoldable pub entryRefusals : ℕ → ℕ → Text → Texts → List Refusal
+unfoldable pub entryRefusals : ℕ → ℕ → Source → Texts → List Refusal
 entryRefusals room sheet f t = refusals room f t ++ refusedIf (ltb sheet sheetLength) 11 0
 
-unfoldable pub entryAnswer : ℕ → ℕ → Text → Texts → Answer
+unfoldable pub entryAnswer : ℕ → ℕ → Source → Texts → Answer
 entryAnswer room sheet f t = firstOf (entryRefusals room sheet f t) (tenTexts f t)
 
 -- "the entry returns the answer's number times 2^48 plus its place"

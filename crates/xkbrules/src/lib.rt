@@ -1,32 +1,36 @@
 // The entries for C, on numbers and byte slices only. A slice is a pointer and a length there: include/xkbrules.h declares them.
 ghost use mathlib.Core.Path.{_≡_};
-ghost use Prim.Native.Nat.{_+_, _*_, _^_, _≤_};
+ghost use Prim.Native.Nat.{_+_, _*_, _^_, _≤_, _<_};
 ghost use lib.ListN.{length};
 ghost use Rattle.profile.specs.Profile.{textsOf};
 ghost use Rattle.answers.specs.Answer.{bufferAfter};
-ghost use Rattle.xkbrules.specs.Sheet.{entryAnswer, code, sheetAfter, componentCode};
+ghost use Rattle.xkbrules.specs.Sheet.{sourceOf, entryAnswer, code, sheetAfter, componentCode};
 use answers::components::sum_first;
 use lengths::lengths_in;
 use lengths::put_lengths;
+use resolver::resolving::has_count;
 use resolver::resolving::measure;
 use resolver::resolving::resolve;
 
 mod cards;
 mod lengths;
 
-// A refusal's number and place in one number: no place is over 65,537, a line more than the longest file has bytes.
+// A refusal's number and place in one number: a place has the file, at most 65,535, times 2^32 and the line, at most 65,537.
 fn packed(number: usize, place: usize) -> u64
-    requires { ⌜ (number ≤ 11) × (place ≤ 65537) ⌝ }
+    requires { ⌜ (number ≤ 15) × (place < 2 ^ 48) ⌝ }
     ensures { λ r. ⌜ r ≡ number * 2 ^ 48 + place ⌝ }
 {
     (number * 281474976710656 + place) as u64
 }
 
-// Resolves `rules` for a profile of four texts. Accepted is 0: then `texts` starts with the ten texts and `sheet` with their lengths. A refusal is its number
+// Resolves the first file of a bundle for a profile of four texts; `home`, `extra` and `system` are what `%H`, `%E` and `%S` stand for in include paths. Accepted is 0: then `texts` starts with the ten texts and `sheet` with their lengths. A refusal is its number
 // times 2^48 plus its place, and leaves both as they were; with a sheet under 40 bytes nothing is written, so the answer is measured.
 #[no_mangle]
 pub extern "C" fn xkbrules_resolve(
-    rules: &[u8],
+    bundle: &[u8],
+    home: &[u8],
+    extra: &[u8],
+    system: &[u8],
     model: &[u8],
     layouts: &[u8],
     variants: &[u8],
@@ -34,21 +38,37 @@ pub extern "C" fn xkbrules_resolve(
     texts: &mut [u8],
     sheet: &mut [u8],
 ) -> u64
-    ensures { λ r. ⌜ (r ≡ code (entryAnswer (length (now (texts .entry))) (length (now (sheet .entry))) (now (rules .entry))
+    ensures { λ r. ⌜ (r ≡ code (entryAnswer (length (now (texts .entry))) (length (now (sheet .entry))) 
+        (sourceOf (now (bundle .entry)) (now (home .entry)) (now (extra .entry)) (now (system .entry)))
         (textsOf (now (model .entry)) (now (layouts .entry)) (now (variants .entry)) (now (options .entry)))))
-        × (now (texts .exit) ≡ bufferAfter (now (texts .entry)) (entryAnswer (length (now (texts .entry))) (length (now (sheet .entry))) (now (rules .entry))
+        × (now (texts .exit) ≡ bufferAfter (now (texts .entry)) (entryAnswer (length (now (texts .entry))) (length (now (sheet .entry))) 
+        (sourceOf (now (bundle .entry)) (now (home .entry)) (now (extra .entry)) (now (system .entry)))
         (textsOf (now (model .entry)) (now (layouts .entry)) (now (variants .entry)) (now (options .entry)))))
-        × (now (sheet .exit) ≡ sheetAfter (now (sheet .entry)) (entryAnswer (length (now (texts .entry))) (length (now (sheet .entry))) (now (rules .entry))
+        × (now (sheet .exit) ≡ sheetAfter (now (sheet .entry)) (entryAnswer (length (now (texts .entry))) (length (now (sheet .entry))) 
+        (sourceOf (now (bundle .entry)) (now (home .entry)) (now (extra .entry)) (now (system .entry)))
         (textsOf (now (model .entry)) (now (layouts .entry)) (now (variants .entry)) (now (options .entry))))) ⌝ }
 {
+    has_count(bundle);
     if sheet.len() < 40 {
-        let m = measure(rules, model, layouts, variants, options, texts.len());
+        let m = measure(
+            bundle,
+            home,
+            extra,
+            system,
+            model,
+            layouts,
+            variants,
+            options,
+            texts.len(),
+        );
         if m.number == 0 {
             return packed(11, 0);
         }
         return packed(m.number, m.place);
     }
-    let a = resolve(rules, model, layouts, variants, options, texts);
+    let a = resolve(
+        bundle, home, extra, system, model, layouts, variants, options, texts,
+    );
     if a.number == 0 {
         let lengths = a.lengths;
         put_lengths(sheet, lengths);

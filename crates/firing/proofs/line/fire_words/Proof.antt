@@ -62,7 +62,7 @@ fire-value-requires c κs =
     let the-loop = c .before .before .before .before .before .before .before .before .loop in
     let the-word-at = c .before .before .before .before .before .before .word-at in
     let the-start = c .before .before .before .before .start in
-    (fires-again _ _ _ _ _ _ _ _ _ _ (entry .pre .2) (the-loop .inv .1) (the-loop .inv .2) (the-loop .inv .0 .going 0 .low), word-fits _ _ _ _ _ _ _ _ _ _ _ _ _ (the-loop .inv .0) _ _ _ _ (found _ _ _ _ _ _ _ _ (the-start .given .1) (the-word-at .ensures)))
+    (fires-again _ _ _ _ _ _ _ _ _ _ (entry .pre .2) (the-loop .inv .1) (the-loop .inv .2) (the-loop .inv .0 .going (record { file = 0; line = 0 }) .low), word-fits _ _ _ _ _ _ _ _ _ _ _ _ _ (the-loop .inv .0) _ _ _ _ (found _ _ _ _ _ _ _ _ (the-start .given .1) (the-word-at .ensures)))
 
 add-j : tie.Need-add-j Inv-loop μ-loop
 add-j c =

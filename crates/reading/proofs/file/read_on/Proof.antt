@@ -283,7 +283,7 @@ returns-5 c =
     let p = start .pre in
     let f = fired-as (start .args .r .used) (start .args .text .now) _ _ _ _ _ _ _ _ _ _ refl (the-fire-kept3 .ensures .0) in
     rw (c .end .ensures, c .before .close2 .ensures)
-    (step-end _ _ _ _ _ _ _ _ _ _ (p .3) (sought-as (start .args .r .used) (start .args .text .now) _ _ _ _ _ _ _ _ _ _ (the-enum-told .given .1) (the-seek-rule .ensures)) _ _ _ (the-fire-kept3 .ensures .1) f _ _)
+    (step-end _ _ _ _ _ _ _ _ _ _ (p .3) (sought-as (start .args .r .used) (start .args .text .now) _ _ _ _ _ _ _ _ _ _ (the-enum-told .given .1) (the-seek-rule .ensures)) _ _ _ (the-fire-kept3 .ensures .1) f)
 
 pub read-on-spec : {M : Type 1} → statement M
 read-on-spec =

@@ -62,7 +62,7 @@ fire-line-requires c κs =
     let w = p .2 .place _ (v .0 .low) (c .before .before .before .before .if1 .taken) e in (
       record { high = w .high; few = omega arith; table = p .0 .table; fenced = p .0 .fenced },
       place-words _ _ _ (p .1) w,
-      fires-on _ _ _ _ _ _ _ _ _ _ _ (p .3) (omega (arith, p .2 .range, c .before .before .before .before .if1 .taken)) (v .1) (v .0 .going (λ k. k) .long) (v .0 .going (λ k. k) .low),
+      fires-on _ _ _ _ _ _ _ _ _ _ _ (p .3) (omega (arith, p .2 .range, c .before .before .before .before .if1 .taken)) (v .1) (v .0 .going (λ k. record { file = 0; line = 0 }) .long) (v .0 .going (λ k. record { file = 0; line = 0 }) .low),
     )
 
 -- src/keep.rt:83:9
@@ -88,7 +88,7 @@ same-length c = search needs
 
 -- src/keep.rt:36:1
 same-length-2 : tie.Need-same-length-2 Inv-loop μ-loop
-same-length-2 c = search (needs, c .before .before .loop .inv .0 .going (λ k. k) .long)
+same-length-2 c = search (needs, c .before .before .loop .inv .0 .going (λ k. record { file = 0; line = 0 }) .long)
 
 -- src/keep.rt:36:1
 returns : tie.Need-returns Inv-loop μ-loop

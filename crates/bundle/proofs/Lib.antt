@@ -1,0 +1,9 @@
+pub mod Bundled
+pub mod Expanded
+pub mod Seeking
+pub mod Pieces
+pub mod Written
+pub mod Keys
+pub mod Counting
+pub mod Linking
+pub mod Chaining
