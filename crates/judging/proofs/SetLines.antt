@@ -22,6 +22,7 @@ use Rattle.rules.specs.Sets.{IsSet}
 use Rattle.rules.specs.Checking.{lineOf}
 use Rattle.rules.proofs.LineKinds.{set-good}
 use Rattle.rules.proofs.HeldHeadings.{heading-held, sized-held}
+use Rattle.judging.specs.declared.IncludePath.{IncludePath}
 use Rattle.judging.specs.declared.SetJudged.{SetJudged}
 use Rattle.judging.specs.Sets.{noPath, refusedSet, includeAt, PathIn, SetOf, SetLineOf}
 use Rattle.judging.proofs.Indexed.{index-from-one}
@@ -120,6 +121,13 @@ module _ (ws : Words) (shape : setShape ws ≡ true) where
 pub tail-dollar : (s : Text) (from : ℕ) (x : Text) → x ≡ drop from s → hasDollar (getD (left s from) 0 []) ≡ false → hasDollar (getD (wordsOf x) 0 []) ≡ false
 unfolding wordsOf left
 tail-dollar s from x e h = rw e h
+
+-- the path within the file
+pub path-fits : (s : Text) (from : ℕ) (x : Text) → x ≡ drop from s → from ≤ length s → (e : Entry) (p : IncludePath) → PathIn x e p →
+    (from + p .start ≤ length s) × (from + p .end ≤ length s)
+path-fits s from x xe le e p v =
+    let l : length x ≡ length s - from = ap length xe ∙ length-drop from s in
+    (omega (arith, v .low, v .high, l), omega (arith, v .high, l))
 
 -- within the file
 pub set-told : (s t : Text) (from m : ℕ) (x : Text) (r : Split) → x ≡ drop from s → from ≤ length s → m ≤ from + 1 → IsSplit true x t r → (j : SetJudged) →

@@ -1,21 +1,23 @@
 -- The examples of document 01, "Checked examples", marked and unmarked, and the one of its program: one table, and one theorem over it by computation.
-use Prim.Native.Nat.{ℕ}
+use Prim.Native.Nat.{ℕ, _/_, _%_}
 use Prim.Native.String.{String}
 use mathlib.Core.Path.{_≡_, refl}
 use mathlib.Core.List.{List, [], _∷_, _++_, map}
-use lib.ListN.{replicate}
-use Rattle.text.specs.Bytes.{bytes, same, empty, first, rest, allOf, anyOf, concatMap, Text}
+use lib.ListN.{length, replicate}
+use Rattle.text.specs.Bytes.{part, bytes, same, empty, first, rest, allOf, anyOf, concatMap, Text}
 use Rattle.text.specs.Lines.{run, words, heading, feeds, inside, linesOf, lines}
 use Rattle.text.specs.Marks.{classOf, step, marks}
 use Rattle.text.specs.Refusals.{refusedIf, refusedAs}
 use Rattle.text.specs.Words.{badByte, tooLong, wordsFault}
 use Rattle.profile.specs.Profile.{push, fields, dropEmpty, optionsOf, profileOf, layoutCount, Texts, textsOf}
 use Rattle.profile.specs.Refusals.{outside, longField, badText, textRefusals, countRefusals, profileRefusals}
-use Rattle.rules.specs.Entries.{before, after, setShape, setEntry, groupEntry, headingEntry, ruleEntry, entryOf}
-use Rattle.rules.specs.Faults.{defined, withGroup, leftWords, rightWords, ruleShape, shapeFault, ruleFault, orphans, headFaults, faults, lineFaults, fileRefusals}
+use Rattle.rules.specs.Entries.{before, after, setShape, setEntry, groupEntry, includeEntry, headingEntry, ruleEntry, entryOf}
+use Rattle.rules.specs.Faults.{defined, withGroup, leftWords, rightWords, ruleShape, shapeFault, ruleFault, orphans, headFaults, faults, lineFaults, bundleRefusals, fileRefusals}
+use Rattle.rules.specs.Written.{Source, placed, lineOut, outLines, between, named, included, writtenOut}
+use Rattle.bundle.specs.Bundle.{pairAt, fourAt, nameEnd, fileEnd, nameAt, bytesAt, fileAt, filesFrom, filesOf, wholeFrom, whole, bytesFrom, bytesOf, longFrom, firstLong}
 use Rattle.rules.specs.Headings.{decimal, upFrom, numberedIn, indexOf, leftItem, componentOf, columnsIn, indexesIn, columnNumber, indexNumber, knownIndex, knownItem, distinct, alike, firstIndex, headingOf, goodItems, hasWord}
 use Rattle.rules.specs.Percent.{whichOf, variableOf, whichLength, variableLength, isPrefix, inParens, pieceAfter, pieceLength, pieces, badWhich, badVariable, badPiece, malformed}
-use Rattle.rules.specs.Sections.{addEntry, sections}
+use Rattle.rules.specs.Sections.{placeOf as spotPlace, addEntry, sections}
 use Rattle.rules.specs.Words.{isEquals, isStar, hasDollar, ordinary, isGroupName, leftWord}
 use Rattle.values.specs.Spread.{isSign, signed, cuts, endsAll, stem, copy, copies, spread, expanded}
 use Rattle.values.specs.Values.{choose, valueOf, pieceText, filled}
@@ -38,7 +40,7 @@ pairs (b ∷ a ∷ r) = (b ++ a) ∷ pairs r
 
 unfoldable pub outcome : Answer → Outcome
 outcome (accepted ts) = strings (pairs ts)
-outcome (refused r) = refusal (numberOf (refused r)) (placeOf (refused r))
+outcome (refused r) = refusal (numberOf (refused r)) (placeOf (refused r) % 4294967296)
 
 -- the buffer's length, the file and the four texts
 pub record Example : Type 0 where
@@ -47,8 +49,18 @@ pub record Example : Type 0 where
   pub profile : Texts
   pub wanted : Outcome
 
+-- a bundle of one file without a name, and empty path texts
+unfoldable pub lone : Text → Source
+lone f =
+    record {
+      bundle = 1 ∷ 0 ∷ 0 ∷ 0 ∷ length f % 256 ∷ length f / 256 % 256 ∷ length f / 65536 ∷ 0 ∷ f;
+      home = [];
+      extra = [];
+      system = [];
+    }
+
 unfoldable pub resolved : Example → Outcome
-resolved e = outcome (answer (e .room) (e .file) (e .profile))
+resolved e = outcome (answer (e .room) (lone (e .file)) (e .profile))
 
 -- layouts and variants, with no model and no options
 unfoldable pub profile : String → String → Texts
@@ -105,5 +117,5 @@ examples =
     program ∷ []
 
 pub checked : map resolved examples ≡ map (λ e. e .wanted) examples
-unfolding examples symbols within layouts word program profile resolved outcome pairs bytes same empty first rest allOf anyOf concatMap run words heading feeds inside linesOf lines classOf step marks refusedIf refusedAs badByte tooLong wordsFault push fields dropEmpty optionsOf profileOf layoutCount outside longField badText textRefusals countRefusals profileRefusals before after setShape setEntry groupEntry headingEntry ruleEntry entryOf defined withGroup leftWords rightWords ruleShape shapeFault ruleFault orphans headFaults faults lineFaults fileRefusals decimal upFrom numberedIn indexOf leftItem componentOf columnsIn indexesIn columnNumber indexNumber knownIndex knownItem distinct alike firstIndex headingOf goodItems hasWord whichOf variableOf whichLength variableLength isPrefix inParens pieceAfter pieceLength pieces badWhich badVariable badPiece malformed addEntry sections isEquals isStar hasDollar ordinary isGroupName leftWord isSign signed cuts endsAll stem copy copies spread expanded choose valueOf pieceText filled textsFrom tenTexts sum joined total noRoom refusals firstOf answer numberOf placeOf valuesOf base additions fired ruleFires firesAt setFires ruleByRule headFires firings fileFirings layoutsAt perLayout layoutsOf members wordMatches valueMatches columnMatches ruleMatches isOptions
+unfolding lone part placed lineOut outLines between named included writtenOut pairAt fourAt nameEnd fileEnd nameAt bytesAt fileAt filesFrom filesOf wholeFrom whole bytesFrom bytesOf longFrom firstLong bundleRefusals spotPlace includeEntry examples symbols within layouts word program profile resolved outcome pairs bytes same empty first rest allOf anyOf concatMap run words heading feeds inside linesOf lines classOf step marks refusedIf refusedAs badByte tooLong wordsFault push fields dropEmpty optionsOf profileOf layoutCount outside longField badText textRefusals countRefusals profileRefusals before after setShape setEntry groupEntry headingEntry ruleEntry entryOf defined withGroup leftWords rightWords ruleShape shapeFault ruleFault orphans headFaults faults lineFaults fileRefusals decimal upFrom numberedIn indexOf leftItem componentOf columnsIn indexesIn columnNumber indexNumber knownIndex knownItem distinct alike firstIndex headingOf goodItems hasWord whichOf variableOf whichLength variableLength isPrefix inParens pieceAfter pieceLength pieces badWhich badVariable badPiece malformed addEntry sections isEquals isStar hasDollar ordinary isGroupName leftWord isSign signed cuts endsAll stem copy copies spread expanded choose valueOf pieceText filled textsFrom tenTexts sum joined total noRoom refusals firstOf answer numberOf placeOf valuesOf base additions fired ruleFires firesAt setFires ruleByRule headFires firings fileFirings layoutsAt perLayout layoutsOf members wordMatches valueMatches columnMatches ruleMatches isOptions
 checked = refl

@@ -6,13 +6,15 @@ use mathlib.Core.List.{List, [], _++_, map}
 use mathlib.Core.Bool.{true}
 use lib.ListN.{length, drop, getD, replicate}
 use Rattle.text.specs.declared.Refusal.{Refusal}
-use Rattle.text.specs.Limits.{longestFile, longestTotal, mostGroups, mostLayouts, mostOptions}
+use Rattle.text.specs.Limits.{longestTotal, mostGroups, mostLayouts, mostOptions}
 use Rattle.text.specs.Bytes.{Text, apart}
-use Rattle.text.specs.Lines.{closed}
 use Rattle.profile.specs.Profile.{Texts, profileOf, layoutCount, optionsOf}
 use Rattle.profile.specs.Options.{Alike, Within, withOptions}
 use Rattle.profile.proofs.Counts as counted
+use Rattle.rules.specs.Written.{Source, writtenOut}
+use Rattle.rules.specs.Faults.{bundleRefusals}
 use Rattle.rules.specs.Names.{definesOf, namesOf}
+use Rattle.rules.proofs.Shifted.{Move, movedLine}
 use Rattle.answers.specs.Firings.{fileFirings}
 use Rattle.answers.specs.Components.{valuesOf, base, additions, updates}
 use Rattle.answers.specs.declared.Outcome.{Outcome}
@@ -28,26 +30,26 @@ use Rattle.xkbrules.specs.Sheet.{sheetLength, entryAnswer, sheetAfter, lengthsI
 use Rattle.xkbrules.proofs.Sheet as sheets
 use Rattle.xkbrules.proofs.Entry as entry
 
--- Demand 1: "Every file and every profile gets an answer": ten texts that fit the buffer, or a refusal with a number from 1 to 11.
-pub answered : (room : ℕ) (f : Text) (t : Texts) → Answered room (answer room f t)
+-- Demand 1: "Every file and every profile gets an answer", every bundle and all path texts: ten texts that fit the buffer, or a refusal with a number from 1 to 15.
+pub answered : (room : ℕ) (f : Source) (t : Texts) → Answered room (answer room f t)
 answered = laws.answered
 
 -- The same for C, with a sheet of any length.
-pub entry-answered : (room sheet : ℕ) (f : Text) (t : Texts) → Answered room (entryAnswer room sheet f t)
+pub entry-answered : (room sheet : ℕ) (f : Source) (t : Texts) → Answered room (entryAnswer room sheet f t)
 entry-answered = entry.entry-answered
 
 -- Demand 1, of a refusal: "and the buffer then holds just what it held before".
-pub buffer-kept : (d f : Text) (t : Texts) (r : Refusal) → answer (length d) f t ≡ refused r → bufferAfter d (answer (length d) f t) ≡ d
+pub buffer-kept : (d : Text) (f : Source) (t : Texts) (r : Refusal) → answer (length d) f t ≡ refused r → bufferAfter d (answer (length d) f t) ≡ d
 unfolding bufferAfter
 buffer-kept d f t r h = rw h
 
 -- "A refusal has ten zero lengths":
-pub zero-lengths : (room : ℕ) (f : Text) (t : Texts) (r : Refusal) → answer room f t ≡ refused r → lengthsOf (answer room f t) ≡ replicate 10 0
+pub zero-lengths : (room : ℕ) (f : Source) (t : Texts) (r : Refusal) → answer room f t ≡ refused r → lengthsOf (answer room f t) ≡ replicate 10 0
 unfolding lengthsOf
 zero-lengths room f t r h = rw h
 
 -- and for C, "A refusal has ten zero lengths; buffer and length sheet stay untouched.", also where the sheet itself is too short
-pub sheet-kept : (d s f : Text) (t : Texts) (r : Refusal) → entryAnswer (length d) (length s) f t ≡ refused r →
+pub sheet-kept : (d s : Text) (f : Source) (t : Texts) (r : Refusal) → entryAnswer (length d) (length s) f t ≡ refused r →
     (lengthsOf (entryAnswer (length d) (length s) f t) ≡ replicate 10 0) ×
     (bufferAfter d (entryAnswer (length d) (length s) f t) ≡ d) ×
     (sheetAfter s (entryAnswer (length d) (length s) f t) ≡ s)
@@ -59,31 +61,31 @@ pub some-layout : (t : Texts) → 1 ≤ layoutCount (profileOf t)
 some-layout = counted.some-layout
 
 -- and for an accepted answer at most 4, with no more variants than layouts; and "at most 64 options remain".
-pub counts : (room : ℕ) (f : Text) (t : Texts) (ts : List Text) → answer room f t ≡ accepted ts →
+pub counts : (room : ℕ) (f : Source) (t : Texts) (ts : List Text) → answer room f t ≡ accepted ts →
     (layoutCount (profileOf t) ≤ mostLayouts) ×
     (length (profileOf t .variants) ≤ layoutCount (profileOf t)) ×
     (length (optionsOf (t .options)) ≤ mostOptions)
 counts room f t ts h = (fits.few-layouts room f t ts h, fits.few-variants room f t ts h, fits.few-options room f t ts h)
 
 -- 001's stepwise update "equals: the first plain value (the base), then all additions in firing order", for each component c of every file and profile
-pub update-stepwise : (f : Text) (t : Texts) (c : ℕ) →
+pub update-stepwise : (f : Source) (t : Texts) (c : ℕ) →
     updates [] (valuesOf c (fileFirings f (profileOf t))) ≡ base (valuesOf c (fileFirings f (profileOf t))) ++ additions (valuesOf c (fileFirings f (profileOf t)))
 update-stepwise f t c = stepwise (valuesOf c (fileFirings f (profileOf t))) (file-values f (profileOf t) c)
 
 -- "The accepted answer is number 0, place 0 and ten lengths:
-pub accepted-values : (room : ℕ) (f : Text) (t : Texts) (ts : List Text) → answer room f t ≡ accepted ts →
+pub accepted-values : (room : ℕ) (f : Source) (t : Texts) (ts : List Text) → answer room f t ≡ accepted ts →
     (numberOf (answer room f t) ≡ 0) × (placeOf (answer room f t) ≡ 0) × (lengthsOf (answer room f t) ≡ map length ts)
 unfolding numberOf placeOf lengthsOf
 accepted-values room f t ts h = (rw h, rw h, rw h)
 
 -- base and additions for keycodes, types, compat, symbols, geometry, in that order": those of component c are the texts 2c and 2c + 1, counted from 0.
-pub texts-in-order : (room : ℕ) (f : Text) (t : Texts) (ts : List Text) (c : ℕ) → answer room f t ≡ accepted ts → c ≤ 4 →
+pub texts-in-order : (room : ℕ) (f : Source) (t : Texts) (ts : List Text) (c : ℕ) → answer room f t ≡ accepted ts → c ≤ 4 →
     (getD ts (2 * c) [] ≡ base (valuesOf c (fileFirings f (profileOf t)))) ×
     (getD ts (2 * c + 1) [] ≡ additions (valuesOf c (fileFirings f (profileOf t))))
 texts-in-order room f t ts c h = fits.texts-at room f t ts h c
 
 -- "A caller may ask for one component and gets back that stretch of its own buffer, base and additions together":
-pub component : (d f : Text) (t : Texts) (ts : List Text) (c : ℕ) → answer (length d) f t ≡ accepted ts → c ≤ 4 →
+pub component : (d : Text) (f : Source) (t : Texts) (ts : List Text) (c : ℕ) → answer (length d) f t ≡ accepted ts → c ≤ 4 →
     stretch (bufferAfter d (accepted ts)) (lengthsOf (accepted ts)) c ≡ getD ts (2 * c) [] ++ getD ts (2 * c + 1) []
 component d f t ts c h = parts.stretch-texts d ts c
 
@@ -96,29 +98,29 @@ pub component-lengths : (d : Text) (ns : List ℕ) (c : ℕ) → length d < sum 
 component-lengths = parts.stretch-lengths
 
 -- The answer for C is that of the resolve where the sheet has 40 bytes or more.
-pub entry-same : (room sheet : ℕ) (f : Text) (t : Texts) → sheetLength ≤ sheet → entryAnswer room sheet f t ≡ answer room f t
+pub entry-same : (room sheet : ℕ) (f : Source) (t : Texts) → sheetLength ≤ sheet → entryAnswer room sheet f t ≡ answer room f t
 entry-same = entry.entry-same
 
 -- With a sheet of any length, a refusal of the resolve is the answer for C,
-pub entry-refused : (room sheet : ℕ) (f : Text) (t : Texts) (r : Refusal) → answer room f t ≡ refused r → entryAnswer room sheet f t ≡ refused r
+pub entry-refused : (room sheet : ℕ) (f : Source) (t : Texts) (r : Refusal) → answer room f t ≡ refused r → entryAnswer room sheet f t ≡ refused r
 entry-refused = entry.entry-refused
 
 -- and "a C length sheet under 40 bytes" is 11 at 0 where the resolve is accepted: "last 11".
-pub entry-short : (room sheet : ℕ) (f : Text) (t : Texts) (ts : List Text) → sheet < sheetLength → answer room f t ≡ accepted ts →
+pub entry-short : (room sheet : ℕ) (f : Source) (t : Texts) (ts : List Text) → sheet < sheetLength → answer room f t ≡ accepted ts →
     (numberOf (entryAnswer room sheet f t) ≡ 11) × (placeOf (entryAnswer room sheet f t) ≡ 0)
 unfolding numberOf placeOf
 entry-short room sheet f t ts s h = let e = entry.entry-short room sheet f t ts s h in (ap numberOf e, ap placeOf e)
 
 -- "the ten lengths are written as little-endian 32-bit numbers into the first 40 bytes of a lent sheet, whose later bytes are untouched": the sheet is
 -- as long as before, its first 40 bytes hold the ten lengths, and the others are as before.
-pub sheet-written : (room : ℕ) (s f : Text) (t : Texts) (ts : List Text) → entryAnswer room (length s) f t ≡ accepted ts →
+pub sheet-written : (room : ℕ) (s : Text) (f : Source) (t : Texts) (ts : List Text) → entryAnswer room (length s) f t ≡ accepted ts →
     (lengthsIn (sheetAfter s (accepted ts)) ≡ lengthsOf (accepted ts)) ×
     (drop sheetLength (sheetAfter s (accepted ts)) ≡ drop sheetLength s) ×
     (length (sheetAfter s (accepted ts)) ≡ length s)
 sheet-written room s f t ts h = (entry.entry-lengths room s f t ts h, entry.entry-later room s f t ts h, entry.entry-size room s f t ts h)
 
 -- With such a sheet C is told where each component stands: its start times 2^32 plus its length.
-pub component-code : (room : ℕ) (s f : Text) (t : Texts) (ts : List Text) (c : ℕ) → entryAnswer room (length s) f t ≡ accepted ts → c ≤ 4 →
+pub component-code : (room : ℕ) (s : Text) (f : Source) (t : Texts) (ts : List Text) (c : ℕ) → entryAnswer room (length s) f t ≡ accepted ts → c ≤ 4 →
     componentCode room (sheetAfter s (accepted ts)) c ≡ stretchStart (lengthsOf (accepted ts)) c * 2 ^ 32 + stretchLength (lengthsOf (accepted ts)) c
 component-code room s f t ts c h = entry.entry-component room s f t ts h c
 
@@ -126,25 +128,24 @@ component-code room s f t ts c h = entry.entry-component room s f t ts h c
 pub component-fits : (room : ℕ) (s : Text) (c : ℕ) → componentCode room s c < 2 ^ 64
 component-fits = sheets.code-fits
 
--- Demand 3, joined files. Of two files that are accepted for a profile, the first is empty or ends with a newline that ends a line, and the second
--- names no group that the first defines. "The joined file is the first's bytes, then the second's; its limits are 65,536 bytes, 64 groups and a total
--- of 1,048,576 bytes." With room for it, "a component's base text equals the first answer's, or the second's where that is empty, and its additions
--- text equals the first's followed by the second's".
-module _ (a b : Text) (t : Texts) (room-a room-b room : ℕ) (xs ys : List Text)
+-- Demand 3, joined files, over the texts with includes written out: the text of c is that of a, then that of b with its lines at other places. Both are
+-- accepted for a profile, and the second names no group that the first defines. With 64 groups or fewer, a total of at most 1,048,576 bytes and room for it,
+-- "a component's base text equals the first answer's, or the second's where that is empty, and its additions text equals the first's followed by the second's".
+module _ (a b c : Source) (m : Move) (t : Texts) (room-a room-b room : ℕ) (xs ys : List Text)
+    (joined : writtenOut c ≡ writtenOut a ++ map (movedLine m) (writtenOut b))
     (first : answer room-a a t ≡ accepted xs)
     (second : answer room-b b t ≡ accepted ys)
-    (ended : closed a ≡ true)
     (unshared : apart (namesOf b) (definesOf a) ≡ true)
-    (size : length (a ++ b) ≤ longestFile)
+    (bundled : bundleRefusals (c .bundle) ≡ [])
     (groups : length (definesOf a) + length (definesOf b) ≤ mostGroups)
     (top : total (together xs ys) ≤ longestTotal)
     (enough : total (together xs ys) ≤ room) where
-  pub joined-files : answer room (a ++ b) t ≡ accepted (together xs ys)
-  joined-files = laws.joined-answer a b t room-a room-b room xs ys first second ended unshared size groups top enough
+  pub joined-files : answer room c t ≡ accepted (together xs ys)
+  joined-files = laws.joined-answer a b c m joined t room-a room-b room xs ys first second unshared bundled groups top enough
 
   -- so for C, with a sheet of 40 bytes or more
-  pub joined-entry : (sheet : ℕ) → sheetLength ≤ sheet → entryAnswer room sheet (a ++ b) t ≡ accepted (together xs ys)
-  joined-entry sheet h = rw (entry.entry-same room sheet (a ++ b) t h) joined-files
+  pub joined-entry : (sheet : ℕ) → sheetLength ≤ sheet → entryAnswer room sheet c t ≡ accepted (together xs ys)
+  joined-entry sheet h = rw (entry.entry-same room sheet c t h) joined-files
 
 -- "the same answer (number, place and lengths)", and "the same bytes" left in a buffer that held d
 pub record Same (d : Text) (a a′ : Answer) : Type 0 where
@@ -159,7 +160,7 @@ same-answers d a a′ e = record { number = ap numberOf e; place = ap placeOf e;
 
 -- Demand 3, options. "Two resolves that differ only in this, with buffers of the same bytes, give the same answer (number, place and lengths) and
 -- leave the same bytes.", refusals included.
-module _ (d f : Text) (t : Texts) (o o′ : Text)
+module _ (d : Text) (f : Source) (t : Texts) (o o′ : Text)
     (alike : Alike o o′)
     (within : Within o)
     (within′ : Within o′) where
@@ -172,41 +173,42 @@ module _ (d f : Text) (t : Texts) (o o′ : Text)
       (sheetAfter s (entryAnswer (length d) (length s) f (withOptions t o)) ≡ sheetAfter s (entryAnswer (length d) (length s) f (withOptions t o′)))
   options-entry s = let e = entry.entry-options (length d) (length s) f t o o′ alike within within′ in (same-answers d _ _ e, ap (sheetAfter s) e)
 
--- The same of the running resolve. The contract of `resolve` is `Resolved f t d d′ r`: for the file f and the four texts t it answers r, and the buffer
+-- The same of the running resolve. The contract of `resolve` is `Resolved f t d d′ r`: for the bundle and path texts f and the four texts t it answers r, and the buffer
 -- goes from d to d′.
 
 -- Demand 1: a refusal has a number from 1 to 11 and ten zero lengths, "and the buffer then holds just what it held before".
-pub resolve-refused : (f : Text) (t : Texts) (d d′ : Text) (r : Outcome) → Resolved f t d d′ r → (r .number ≡ 0 → ⊥) →
-    (1 ≤ r .number) × (r .number ≤ 11) × (r .lengths ≡ replicate 10 0) × (d′ ≡ d)
+pub resolve-refused : (f : Source) (t : Texts) (d d′ : Text) (r : Outcome) → Resolved f t d d′ r → (r .number ≡ 0 → ⊥) →
+    (1 ≤ r .number) × (r .number ≤ 15) × (r .lengths ≡ replicate 10 0) × (d′ ≡ d)
 resolve-refused f t d d′ r v h = let k = resolves.kept f t d d′ r v h in (k .least, k .most, k .lengths, k .buffer)
 
 -- Demand 2: any other answer has place 0, and "The buffer's first bytes hold the ten texts without gaps; later bytes are untouched."
-pub resolve-accepted : (f : Text) (t : Texts) (d d′ : Text) (r : Outcome) → Resolved f t d d′ r → r .number ≡ 0 →
+pub resolve-accepted : (f : Source) (t : Texts) (d d′ : Text) (r : Outcome) → Resolved f t d d′ r → r .number ≡ 0 →
     (r .place ≡ 0) × (textsIn d′ (r .lengths) ≡ tenTexts f t) × (drop (sum (r .lengths)) d′ ≡ drop (sum (r .lengths)) d) × (length d′ ≡ length d)
 resolve-accepted f t d d′ r v h = let k = resolves.held f t d d′ r v h in (k .place, k .texts, k .later, k .size)
 
--- Nothing is remembered between two resolves: the same file, texts and buffer give the same answer and the same bytes.
-pub resolve-again : (f : Text) (t : Texts) (d c′ : Text) (x : Outcome) (e′ : Text) (y : Outcome) → Resolved f t d c′ x → Resolved f t d e′ y → (x ≡ y) × (c′ ≡ e′)
+-- Nothing is remembered between two resolves: the same bundle, texts and buffer give the same answer and the same bytes.
+pub resolve-again : (f : Source) (t : Texts) (d c′ : Text) (x : Outcome) (e′ : Text) (y : Outcome) → Resolved f t d c′ x → Resolved f t d e′ y → (x ≡ y) × (c′ ≡ e′)
 resolve-again f t d c′ x e′ y v w = (v .result ∙ sym (w .result), v .buffer ∙ sym (w .buffer))
 
 -- Demand 3, joined files: three resolves, each with a buffer of its own. The texts are those that the buffers hold.
-module _ (a b : Text) (t : Texts) (c c′ : Text) (x : Outcome) (e e′ : Text) (y : Outcome) (d d′ : Text) (z : Outcome)
+module _ (a b g : Source) (m : Move) (t : Texts) (c c′ : Text) (x : Outcome) (e e′ : Text) (y : Outcome) (d d′ : Text) (z : Outcome)
+    (joined : writtenOut g ≡ writtenOut a ++ map (movedLine m) (writtenOut b))
     (first : Resolved a t c c′ x)
     (second : Resolved b t e e′ y)
-    (both : Resolved (a ++ b) t d d′ z)
+    (both : Resolved g t d d′ z)
     (accepted-first : x .number ≡ 0)
     (accepted-second : y .number ≡ 0)
-    (ended : closed a ≡ true)
     (names-apart : apart (namesOf b) (definesOf a) ≡ true)
-    (size : length (a ++ b) ≤ longestFile)
+    (bundled : bundleRefusals (g .bundle) ≡ [])
     (groups : length (definesOf a) + length (definesOf b) ≤ mostGroups)
     (top : total (together (textsIn c′ (x .lengths)) (textsIn e′ (y .lengths))) ≤ longestTotal)
     (enough : total (together (textsIn c′ (x .lengths)) (textsIn e′ (y .lengths))) ≤ length d) where
   pub joined-resolve : (z .number ≡ 0) × (textsIn d′ (z .lengths) ≡ together (textsIn c′ (x .lengths)) (textsIn e′ (y .lengths)))
-  joined-resolve = resolves.joined-resolve a b t c c′ x e e′ y d d′ z first second both accepted-first accepted-second ended names-apart size groups top enough
+  joined-resolve =
+      resolves.joined-resolve a b g m joined t c c′ x e e′ y d d′ z first second both accepted-first accepted-second names-apart bundled groups top enough
 
 -- Demand 3, options: two resolves "that differ only in this, with buffers of the same bytes, give the same answer (number, place and lengths) and leave
 -- the same bytes".
-pub options-resolve : (f : Text) (t : Texts) (o o′ d c′ : Text) (x : Outcome) (e′ : Text) (y : Outcome) → Alike o o′ → Within o → Within o′ →
+pub options-resolve : (f : Source) (t : Texts) (o o′ d c′ : Text) (x : Outcome) (e′ : Text) (y : Outcome) → Alike o o′ → Within o → Within o′ →
     Resolved f (withOptions t o) d c′ x → Resolved f (withOptions t o′) d e′ y → (x ≡ y) × (c′ ≡ e′)
 options-resolve f t o o′ d c′ x e′ y alike within within′ v w = resolves.options-resolve f t o o′ d c′ x e′ y alike within within′ v w

@@ -15,7 +15,7 @@ use Rattle.output.proofs.Stores.{take-stored, wrote-then}
 use Rattle.values.proofs.Writes.{wrote-long}
 use Rattle.answers.specs.Answer.{sum, total, refused, accepted, lengthsOf, bufferAfter, stretch}
 use Rattle.answers.proofs.Stretch.{stretch-texts}
-use Rattle.xkbresolve.specs.Program.{digits, inDecimal, refusalLine, names, componentLine, componentLines, stretchLines}
+use Rattle.xkbresolve.specs.Program.{loneBundle, digits, inDecimal, refusalLine, names, componentLine, componentLines, stretchLines}
 
 -- a number in decimal
 
@@ -55,6 +55,33 @@ digits-few (suc n) k = go (ltb k 10) (digits-few n (k / 10))
     go : (t : Bool) → length (digits n (k / 10)) ≤ n → length (cond t ((48 + k) ∷ []) (digits n (k / 10) ++ ((48 + k % 10) ∷ []))) ≤ suc n
     go true h = omega arith
     go false h = simp length-append (omega (arith, h))
+
+-- a number below 10 b has one digit more than those below b
+more-digits : (b n : ℕ) → ((m k : ℕ) → k < b → length (digits m k) ≤ n) → (m k : ℕ) → k < 10 * b → length (digits m k) ≤ suc n
+unfolding digits
+more-digits b n h zero k l = omega arith
+more-digits b n h (suc m) k l = go (ltb k 10) (h m (k / 10) (omega arith))
+  where
+    go : (t : Bool) → length (digits m (k / 10)) ≤ n → length (cond t ((48 + k) ∷ []) (digits m (k / 10) ++ ((48 + k % 10) ∷ []))) ≤ suc n
+    go true i = omega arith
+    go false i = simp length-append (omega (arith, i))
+
+one-digit : (m k : ℕ) → k < 10 → length (digits m k) ≤ 1
+unfolding digits
+one-digit zero k l = omega arith
+one-digit (suc m) k l = rw (lt-ltb k 10 l) (omega arith)
+
+pub digits-ten : (m k : ℕ) → k < 4294967296 → length (digits m k) ≤ 10
+digits-ten m k l =
+    let two = more-digits 10 1 one-digit in
+    let three = more-digits 100 2 two in
+    let four = more-digits 1000 3 three in
+    let five = more-digits 10000 4 four in
+    let six = more-digits 100000 5 five in
+    let seven = more-digits 1000000 6 six in
+    let eight = more-digits 10000000 7 seven in
+    let nine = more-digits 100000000 8 eight in
+    more-digits 1000000000 9 nine m k (omega arith)
 
 pub wrote-digit : (d d′ : Text) (at k r : ℕ) → k < 10 → Wrote d d′ at ((48 + k) ∷ []) r → Wrote d d′ at (inDecimal k) r
 wrote-digit d d′ at k r h w = rw (decimal-digit k h) w
@@ -150,3 +177,18 @@ module _ (d d′ t : Text) (r : ℕ) (size : length t ≤ length d) (low : lengt
   out-counts =
       let l : length d′ ≡ length d = wrote-long d d′ 0 t r w in
       (omega (arith, counted), sym (ap length out-text ∙ sym counted))
+
+-- the bundle of one file, written piece by piece
+pub wrote-bundle : (d d₁ d₂ d₃ d₄ d₅ d₆ f : Text) (a b c e g r : ℕ) → 8 + length f ≤ length d → length d ≤ farthest →
+    Wrote d d₁ 0 (1 ∷ 0 ∷ 0 ∷ 0 ∷ []) a → Wrote d₁ d₂ a (length f % 256 ∷ []) b → Wrote d₂ d₃ b (length f / 256 % 256 ∷ []) c → Wrote d₃ d₄ c (length f / 65536 ∷ []) e →
+    Wrote d₄ d₅ e (0 ∷ []) g → Wrote d₅ d₆ g f r → (take r d₆ ≡ loneBundle f) × (r ≤ length d₆)
+unfolding loneBundle
+wrote-bundle d d₁ d₂ d₃ d₄ d₅ d₆ f a b c e g r s l v₁ v₂ v₃ v₄ v₅ v₆ =
+    let l₁ = kept d d₁ 0 _ a l v₁ in
+    let l₂ = kept d₁ d₂ a _ b l₁ v₂ in
+    let l₃ = kept d₂ d₃ b _ c l₂ v₃ in
+    let l₄ = kept d₃ d₄ c _ e l₃ v₄ in
+    let w = wrote-then d d₁ d₆ 0 _ _ a r l v₁ (wrote-then d₁ d₂ d₆ a _ _ b r l₁ v₂ (wrote-then d₂ d₃ d₆ b _ _ c r l₂ v₃
+    (wrote-then d₃ d₄ d₆ c _ _ e r l₃ v₄ (wrote-then d₄ d₅ d₆ e _ _ g r l₄ v₅ v₆)))) in
+    let z : length (1 ∷ 0 ∷ 0 ∷ 0 ∷ length f % 256 ∷ length f / 256 % 256 ∷ length f / 65536 ∷ 0 ∷ f) ≤ length d = omega arith in
+    (out-text d d₆ _ r z l w, out-counts d d₆ _ r z l w .0)

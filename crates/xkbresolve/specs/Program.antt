@@ -7,6 +7,7 @@ use lib.Dec.{eqb, ltb}
 use Rattle.text.specs.Limits.{longestFile}
 use Rattle.text.specs.Bytes.{Text, bytes}
 use Rattle.profile.specs.Profile.{Texts, textsOf}
+use Rattle.rules.specs.Written.{Source}
 use Rattle.answers.specs.Answer.{Answer, refused, accepted, answer, stretch}
 
 -- a text up to its first LF, and what stands behind that
@@ -25,13 +26,20 @@ inputTexts s = textsOf (firstLine s) (firstLine (laterLines s)) (firstLine (late
 unfoldable pub inputRules : Text → Text
 inputRules s = laterLines (laterLines (laterLines (laterLines s)))
 
+-- #101: "01's program gives one unnamed file and empty texts": a bundle of one file that has no name and at most 65,536 bytes
+unfoldable pub loneBundle : Text → Text
+loneBundle f = 1 ∷ 0 ∷ 0 ∷ 0 ∷ length f % 256 ∷ length f / 256 % 256 ∷ length f / 65536 ∷ 0 ∷ f
+
+abbrev pub loneSource : Text → Source
+loneSource f = record { bundle = loneBundle f; home = []; extra = []; system = [] }
+
 -- "It lends 65,536 bytes for the texts."
 abbrev pub lentRoom : ℕ
 lentRoom = 65536
 
 -- "Over 65,536 bytes of input in all it prints `refused 3 at 0` and looks at nothing else."
 unfoldable pub inputAnswer : Text → Answer
-inputAnswer s = cond (ltb longestFile (length s)) (refused (record { number = 3; place = 0 })) (answer lentRoom (inputRules s) (inputTexts s))
+inputAnswer s = cond (ltb longestFile (length s)) (refused (record { number = 3; place = 0 })) (answer lentRoom (loneSource (inputRules s)) (inputTexts s))
 
 -- a number in decimal, without leading zeros: in at most n digits, and in as many as it needs
 unfoldable pub digits : ℕ → ℕ → Text
@@ -41,7 +49,10 @@ digits (suc n) k = let r = digits n (k / 10) in cond (ltb k 10) ((48 + k) ∷ []
 unfoldable pub inDecimal : ℕ → Text
 inDecimal k = digits (suc k) k
 
--- "A refusal prints one line, as `refused 6 at 2`, with number and place."
+-- "A refusal prints one line, as `refused 6 at 2`, with number and place."; #101: "and prints the line part"
+unfoldable pub linePart : ℕ → ℕ
+linePart p = p % 4294967296
+
 unfoldable pub refusalLine : ℕ → ℕ → Text
 refusalLine n p = bytes "refused " ++ (inDecimal n ++ (bytes " at " ++ (inDecimal p ++ (10 ∷ []))))
 
@@ -58,7 +69,7 @@ componentLines [] c ts = []
 componentLines (n ∷ ns) c ts = componentLine n (getD ts (2 * c) [] ++ getD ts (2 * c + 1) []) ++ componentLines ns (c + 1) ts
 
 unfoldable pub printed : Answer → Text
-printed (refused r) = refusalLine (r .number) (r .place)
+printed (refused r) = refusalLine (r .number) (linePart (r .place))
 printed (accepted ts) = componentLines names 0 ts
 
 -- the same lines, read out of a buffer d that holds texts of the lengths ls

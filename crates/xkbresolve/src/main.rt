@@ -7,11 +7,13 @@ ghost use Rattle.output.specs.Store.{farthest};
 ghost use Rattle.xkbresolve.specs.Program.{inputAnswer, printed, mostPrinted};
 use input::first_line;
 use input::later_lines;
+use packing::pack;
 use printing::put_components;
 use printing::put_refusal;
 use resolver::resolving::resolve;
 
 mod input;
+mod packing;
 mod printing;
 
 // What is printed for an input, at the start of `out`: the number of its bytes.
@@ -32,9 +34,21 @@ fn run(input: &[u8], out: &mut [u8]) -> usize
     let options = first_line(from_options);
     let rules = later_lines(from_options);
     let mut texts: [u8; 65536] = [0; 65536];
-    let a = resolve(rules, model, layouts, variants, options, &mut texts);
+    let mut bundle: [u8; 65544] = [0; 65544];
+    let n = pack(rules, &mut bundle) as usize;
+    let a = resolve(
+        &bundle[0..n],
+        b"",
+        b"",
+        b"",
+        model,
+        layouts,
+        variants,
+        options,
+        &mut texts,
+    );
     if a.number != 0 {
-        return put_refusal(a.number, a.place, out) as usize;
+        return put_refusal(a.number, a.place % 4294967296, out) as usize;
     }
     let lengths = a.lengths;
     put_components(&texts, lengths, out) as usize

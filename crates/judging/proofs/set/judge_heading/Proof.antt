@@ -42,12 +42,18 @@ refused-set-requires-3 c κs = search needs
 returns-3 : tie.Need-returns-3
 unfolding bytes
 returns-3 c =
-    let l = omega (arith, @start .pre .0 .count, @if2 .left) in
+    let start = c .before .before .before .before .before .before .before .before .before .before .before .before .before in
+    let the-if2 = c .before .before .before .before .before .before .before .if2 in
+    let the-if1 = c .before .before .before .before .before .before .before .before .before .before .if1 in
+    let the-word = c .before .before .before .before .before .before .word in
+    let the-same = c .before .before .before .before .same in
+    let the-if3 = c .before .before .before .if3 in
+    let the-if4 = c .before .if4 in
     set-refused _ _ 6 _ (λ (z : _≡_ {A = ℕ} 6 0). omega arith)
-    (line-heading _ _ _ _ (@start .pre .0 .fault) (@if1 .left) refl
-    ∙ (heading-include (wordsOf (@start .args .w .now)) l (@start .pre .1)
-    (ap (λ x. same x (bytes "include")) (sym (@word .ensures)) ∙ (sym (@same .ensures) ∙ @if3 .taken))
-    ∙ include-many (wordsOf (@start .args .w .now)) (λ z. @if4 .taken (@start .pre .0 .count ∙ z)) l)) (c .refused-set3 .ensures)
+    (line-heading _ _ _ _ (start .pre .0 .fault) (the-if1 .left) refl
+    ∙ (heading-include (wordsOf (start .args .w .now)) (omega (arith, start .pre .0 .count, the-if2 .left)) (start .pre .1)
+    (ap (λ x. same x (bytes "include")) (sym (the-word .ensures)) ∙ (sym (the-same .ensures) ∙ the-if3 .taken))
+    ∙ include-many (wordsOf (start .args .w .now)) (λ z. the-if4 .taken (start .pre .0 .count ∙ z)) (omega (arith, start .pre .0 .count, the-if2 .left)))) (c .refused-set3 .ensures)
 
 shared-slice-read-include-line : tie.Need-shared-slice-read-include-line
 shared-slice-read-include-line c = search needs
@@ -61,22 +67,37 @@ include-line-requires c κs = search needs
 returns-4 : tie.Need-returns-4
 unfolding bytes
 returns-4 c =
+    let start = c .before .before .before .before .before .before .before .before .before .before .before .before .before .before .before in
+    let the-if1 = c .before .before .before .before .before .before .before .before .before .before .before .before .if1 in
+    let the-if2 = c .before .before .before .before .before .before .before .before .before .if2 in
+    let the-word = c .before .before .before .before .before .before .before .before .word in
+    let the-same = c .before .before .before .before .before .before .same in
+    let the-if3 = c .before .before .before .before .before .if3 in
+    let the-if4 = c .before .before .before .if4 in
     include-read _ _ _
-    (line-heading _ _ _ _ (@start .pre .0 .fault) (@if1 .left) refl
-    ∙ heading-include (wordsOf (@start .args .w .now)) (omega (arith, @start .pre .0 .count, @if2 .left)) (@start .pre .1)
-    (ap (λ x. same x (bytes "include")) (sym (@word .ensures)) ∙ (sym (@same .ensures) ∙ @if3 .taken)))
-    (sym (@start .pre .0 .count) ∙ @if4 .left) (@start .pre .0 .placed) _ (c .include-line .ensures)
+    (line-heading _ _ _ _ (start .pre .0 .fault) (the-if1 .left) refl
+    ∙ heading-include (wordsOf (start .args .w .now)) (omega (arith, start .pre .0 .count, the-if2 .left)) (start .pre .1)
+    (ap (λ x. same x (bytes "include")) (sym (the-word .ensures)) ∙ (sym (the-same .ensures) ∙ the-if3 .taken)))
+    (sym (start .pre .0 .count) ∙ the-if4 .left) (start .pre .0 .placed) _ (c .include-line .ensures)
 
 judge-set-requires : tie.Need-judge-set-requires
-judge-set-requires c κs = (@start .pre .0 .placed, @start .pre .0 .tally refl)
+judge-set-requires c κs =
+    let start = c .before .before .before .before .before .before .before .before .before .before in
+    (start .pre .0 .placed, start .pre .0 .tally refl)
 
 returns-5 : tie.Need-returns-5
 unfolding bytes
 returns-5 c =
+    let start = c .before .before .before .before .before .before .before .before .before .before .before in
+    let the-if1 = c .before .before .before .before .before .before .before .before .if1 in
+    let the-if2 = c .before .before .before .before .before .if2 in
+    let the-word = c .before .before .before .before .word in
+    let the-same = c .before .before .same in
+    let the-if3 = c .before .if3 in
     set-as _ _ _ _
-    (line-heading _ _ _ _ (@start .pre .0 .fault) (@if1 .left) refl
-    ∙ heading-set (wordsOf (@start .args .w .now)) (omega (arith, @start .pre .0 .count, @if2 .left)) (@start .pre .1)
-    (ap (λ x. same x (bytes "include")) (sym (@word .ensures)) ∙ (sym (@same .ensures) ∙ @if3 .left)))
+    (line-heading _ _ _ _ (start .pre .0 .fault) (the-if1 .left) refl
+    ∙ heading-set (wordsOf (start .args .w .now)) (omega (arith, start .pre .0 .count, the-if2 .left)) (start .pre .1)
+    (ap (λ x. same x (bytes "include")) (sym (the-word .ensures)) ∙ (sym (the-same .ensures) ∙ the-if3 .left)))
     (c .judge-set .ensures)
 
 pub judge-heading-spec : {M : Type 1} → statement M

@@ -1,6 +1,8 @@
 use borrow.Author.Needs.{needs}
-use Rattle.judging.proofs.SetLines.{tail-dollar, set-told}
+use Rattle.judging.proofs.RuleLines.{split-high, split-few}
+use Rattle.judging.proofs.SetLines.{tail-dollar, path-fits, set-told}
 use mathlib.Core.Path.{refl}
+use native.Mathlib.Omega.{arith}
 use Rattle.rules.proofs.CheckSteps.{fence-tail}
 use Rattle.rules.proofs.Pieces.{tail-whole}
 use Rattle.judging.proofs.set.set_line.Statement.{statement}
@@ -34,21 +36,36 @@ judge-heading-requires c κs =
     let start = c .before .before .before .before .before .before .before in
     (c .before .before .split-line .ensures, tail-dollar _ _ _ (tail-whole (start .args .s .now) (start .args .from) (start .pre .0 .high)) (start .pre .1))
 
-add-path : tie.Need-add-path
-add-path c = omega (arith, @judge-heading .ensures .path .low, @judge-heading .ensures .path .high, tail-length (@start .args .s .now) (@start .args .from))
+add-t14 : tie.Need-add-t14
+add-t14 c =
+    let start = c .before .before .before .before .before .before .before .before .before .before .before in
+    let the-judge-heading = c .before .before .before .judge-heading in
+    let q = path-fits _ _ _ (tail-whole (start .args .s .now) (start .args .from) (start .pre .0 .high)) (start .pre .0 .high) _ _ (the-judge-heading .ensures .path) in omega (arith, q .0)
 
-add-path-2 : tie.Need-add-path-2
-add-path-2 c = omega (arith, @judge-heading .ensures .path .high, tail-length (@start .args .s .now) (@start .args .from))
+add-t20 : tie.Need-add-t20
+add-t20 c =
+    let start = c .before .before .before .before .before .before .before .before .before .before .before .before in
+    let the-judge-heading = c .before .before .before .before .judge-heading in
+    let q = path-fits _ _ _ (tail-whole (start .args .s .now) (start .args .from) (start .pre .0 .high)) (start .pre .0 .high) _ _ (the-judge-heading .ensures .path) in omega (arith, q .1)
 
-add-t12 : tie.Need-add-t12
-add-t12 c = search needs
+add-t14-2 : tie.Need-add-t14-2
+add-t14-2 c =
+    let start = c .before .before .before .before .before .before .before .before .before .before .before .before .before in
+    let the-split-line = c .before .before .before .before .before .before .before .before .split-line in
+    let q = split-high _ _ _ _ _ _ _ (tail-whole (start .args .s .now) (start .args .from) (start .pre .0 .high)) (start .pre .0 .high) (start .pre .0 .few) (the-split-line .ensures) in omega (arith, q)
 
-add-t18 : tie.Need-add-t18
-add-t18 c = search needs
+add-t20-2 : tie.Need-add-t20-2
+add-t20-2 c =
+    let start = c .before .before .before .before .before .before .before .before .before .before .before .before .before .before in
+    let the-split-line = c .before .before .before .before .before .before .before .before .before .split-line in
+    let q = split-high _ _ _ _ _ _ _ (tail-whole (start .args .s .now) (start .args .from) (start .pre .0 .high)) (start .pre .0 .high) (start .pre .0 .few) (the-split-line .ensures) in let k = split-few _ _ _ _ _ _ _ (tail-whole (start .args .s .now) (start .args .from) (start .pre .0 .high)) (start .pre .0 .high) (start .pre .0 .few) (the-split-line .ensures) in omega (arith, q, k)
 
 returns : tie.Need-returns
 returns c =
-    set-told _ _ _ _ _ _ (tail-whole (@start .args .s .now) (@start .args .from) (@start .pre .0 .high)) (@start .pre .0 .high) (@start .pre .0 .few) (@split-line .ensures) _ (@judge-heading .ensures)
+    let start = c .before .before .before .before .before .before .before .before .before .before .before .before .before .before in
+    let the-split-line = c .before .before .before .before .before .before .before .before .before .split-line in
+    let the-judge-heading = c .before .before .before .before .before .before .judge-heading in
+    set-told _ _ _ _ _ _ (tail-whole (start .args .s .now) (start .args .from) (start .pre .0 .high)) (start .pre .0 .high) (start .pre .0 .few) (the-split-line .ensures) _ (the-judge-heading .ensures)
 
 pub set-line-spec : {M : Type 1} → statement M
 set-line-spec =
@@ -62,8 +79,8 @@ set-line-spec =
     split-line-requires
     slice-aggregate-judge-heading
     judge-heading-requires
-    add-path
-    add-path-2
-    add-t12
-    add-t18
+    add-t14
+    add-t20
+    add-t14-2
+    add-t20-2
     returns)
