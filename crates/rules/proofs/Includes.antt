@@ -2,21 +2,27 @@
 use Prim.Native.Nat.{ℕ, zero, suc, _+_, _≤_}
 use native.Mathlib.Omega.{arith}
 use mathlib.Core.Path.{_≡_, refl, sym, ap, _∙_}
-use mathlib.Core.List.{List, [], _∷_, _++_, map, append-assoc, append-nil}
+use mathlib.Core.List.{List, [], _∷_, _++_, map, append-assoc}
 use mathlib.Core.Bool.{Bool, true, false, cond, not, _&&_}
-use lib.Dec.{eqb}
-use borrow.Author.Tests.{ne-eqb, eqb-false, not-true}
+use lib.ListN.{length}
+use lib.Dec.{eqb, ltb}
+use borrow.Author.Tests.{ne-eqb, eqb-true, eqb-false, not-true, not-false, le-ltb}
+use Rattle.text.specs.declared.Refusal.{Refusal}
+use Rattle.text.specs.Limits.{longestFile}
 use Rattle.text.specs.Bytes.{Text, same, allOf}
+use Rattle.text.specs.Refusals.{refusedIf}
 use Rattle.text.specs.Marks.{marks}
-use Rattle.text.specs.Lines.{Line, linesOf, lines, closed}
+use Rattle.text.specs.Lines.{Line, linesOf, lines}
 use Rattle.text.proofs.Lists.{no, and-both, map-append}
 use Rattle.text.proofs.Joined.{shifted, physical, lines-join}
-use Rattle.bundle.specs.Bundle.{File, filesOf, numberFrom, numberOf, bytesFrom, bytesOf}
+use Rattle.text.proofs.Numbers.{clear-if}
+use Rattle.bundle.specs.Bundle.{File, filesOf, numberFrom, numberOf, bytesFrom, bytesOf, whole, longFrom, firstLong}
 use Rattle.bundle.specs.Paths.{badPath, pathOf}
 use Rattle.rules.specs.Entries.{Entry, ignored, wrong, group, set, rule, include, entryOf}
-use Rattle.rules.specs.Sections.{Spot, Placed}
+use Rattle.rules.specs.Sections.{Spot, placeOf, Placed}
 use Rattle.rules.specs.Written.{Source, Include, placed, lineOut, outLines, between, named, included, deepest, writtenOut}
-use Rattle.rules.specs.Joined.{namesFirst, avoids, unnamed, SamePaths, Leads, FirstJoined, firstOn, isInclude, includesNothing}
+use Rattle.rules.specs.Faults.{bundleRefusals}
+use Rattle.rules.specs.Joined.{namesFirst, avoids, unnamed, SamePaths, Leads, FirstJoined, firstOn, isInclude, includesNothing, onLine}
 use Rattle.rules.proofs.Shifted.{Move, movedLine}
 
 out-append : (inc : Include) (k : ℕ) (a b : List Line) → outLines inc k (a ++ b) ≡ outLines inc k a ++ outLines inc k b
@@ -122,6 +128,10 @@ module _ (x : Source) (f : File) (fs : List File) (o : Leads x f fs) where
   file-first : bytesOf (filesOf (x .bundle)) 1 ≡ f .bytes
   file-first = ap (λ (r : List File). bytesOf r 1) (o .files) ∙ bytes-first f fs
 
+-- an include line that names no first file becomes the same by both
+abbrev Agree : Source → Source → Include → Include → Type 0
+Agree x y inc jnc = (n : Spot) (w : Text) → namesFirst x (include w) ≡ false → namesFirst y (include w) ≡ false → inc n w ≡ jnc n w
+
 -- 1. A line that names no first file becomes the same whatever the first file is.
 
 same-line : (x y : Source) (inc jnc : Include) (n : Spot) (e : Entry) → namesFirst x e ≡ false → namesFirst y e ≡ false →
@@ -134,8 +144,8 @@ same-line x y inc jnc n (set s) a b h = refl
 same-line x y inc jnc n (rule ws) a b h = refl
 same-line x y inc jnc n (include w) a b h = h w a b
 
-same-out : (x y : Source) (inc jnc : Include) (k : ℕ) (ls : List Line) → avoids x ls ≡ true → avoids y ls ≡ true →
-    ((n : Spot) (w : Text) → namesFirst x (include w) ≡ false → namesFirst y (include w) ≡ false → inc n w ≡ jnc n w) → outLines inc k ls ≡ outLines jnc k ls
+same-out : (x y : Source) (inc jnc : Include) (k : ℕ) (ls : List Line) → avoids x ls ≡ true → avoids y ls ≡ true → Agree x y inc jnc →
+    outLines inc k ls ≡ outLines jnc k ls
 unfolding outLines
 same-out x y inc jnc k [] a b h = refl
 same-out x y inc jnc k (l ∷ ls) a b h =
@@ -151,18 +161,13 @@ module _ (x y : Source) (f g : File) (fs : List File) (o : Leads x f fs) (q : Le
   same-file : (k : ℕ) → 2 ≤ k → bytesOf (filesOf (x .bundle)) k ≡ bytesOf (filesOf (y .bundle)) k
   same-file k l = file-rest x f fs o k l ∙ sym (file-rest y g fs q k l)
 
-  -- an include line that names no first file becomes the same
-  abbrev SameIncludes : Include → Include → Type 0
-  SameIncludes inc jnc = (n : Spot) (w : Text) → namesFirst x (include w) ≡ false → namesFirst y (include w) ≡ false → inc n w ≡ jnc n w
-
-  same-below : (inc jnc : Include) (k : ℕ) → 2 ≤ k →
-      SameIncludes inc jnc →
+  same-below : (inc jnc : Include) (k : ℕ) → 2 ≤ k → Agree x y inc jnc →
       outLines inc k (lines (bytesOf (filesOf (x .bundle)) k)) ≡ outLines jnc k (lines (bytesOf (filesOf (y .bundle)) k))
   same-below inc jnc k l h =
       same-out x y inc jnc k (lines (bytesOf (filesOf (x .bundle)) k)) (avoids-file x k (o .free)) (rw (same-file k l) (avoids-file y k (q .free))) h
       ∙ rw (same-file k l)
 
-  same-include : (d : ℕ) (n : Spot) (w : Text) → namesFirst x (include w) ≡ false → namesFirst y (include w) ≡ false → included d x n w ≡ included d y n w
+  same-include : (d : ℕ) → Agree x y (included d x) (included d y)
   unfolding included
   same-include zero n w a b = go (badPath w) refl
     where
@@ -173,13 +178,13 @@ module _ (x y : Source) (f g : File) (fs : List File) (o : Leads x f fs) (q : Le
       go false e = rw (same-named w (not-first x w e a) (not-first y w e b))
   same-include (suc d) n w a b = go (badPath w) refl (same-include d)
     where
-      read : (k : ℕ) (t : Bool) → eqb k 0 ≡ t → ((k ≡ 0 → ⊥) → 2 ≤ k) → SameIncludes (included d x) (included d y) →
+      read : (k : ℕ) (t : Bool) → eqb k 0 ≡ t → ((k ≡ 0 → ⊥) → 2 ≤ k) → Agree x y (included d x) (included d y) →
           cond t (placed n (wrong 13)) (between n w (outLines (included d x) k (lines (bytesOf (filesOf (x .bundle)) k)))) ≡
           cond t (placed n (wrong 13)) (between n w (outLines (included d y) k (lines (bytesOf (filesOf (y .bundle)) k))))
       read k true e h r = refl
       read k false e h r = ap (between n w) (same-below (included d x) (included d y) k (h (eqb-false _ _ e)) r)
 
-      go : (t : Bool) → badPath w ≡ t → SameIncludes (included d x) (included d y) →
+      go : (t : Bool) → badPath w ≡ t → Agree x y (included d x) (included d y) →
           cond t (placed n (wrong 15)) (cond (eqb (named x w) 0) (placed n (wrong 13)) (between n w (outLines (included d x) (named x w) (lines (bytesOf (filesOf (x .bundle)) (named x w)))))) ≡
           cond t (placed n (wrong 15)) (cond (eqb (named y w) 0) (placed n (wrong 13)) (between n w (outLines (included d y) (named y w) (lines (bytesOf (filesOf (y .bundle)) (named y w))))))
       go true e r = refl
@@ -187,7 +192,11 @@ module _ (x y : Source) (f g : File) (fs : List File) (o : Leads x f fs) (q : Le
           let u = not-first x w e a in
           rw (← same-named w u (not-first y w e b)) (read (named x w) (eqb (named x w) 0) refl (named-high x f fs o w u) r)
 
--- 2. Lines at other places: a file that is not the first stays, and an include line takes its place with it.
+-- 2. Lines of other files stay.
+
+-- what an include line becomes moves with it
+abbrev Moves : Source → ℕ → Include → Type 0
+Moves x j inc = (n : Spot) (w : Text) → namesFirst x (include w) ≡ false → inc (firstOn j n) w ≡ map (movedLine (firstOn j)) (inc n w)
 
 map-placed : (m : Move) (n : Spot) (e : Entry) → placed (m n) e ≡ map (movedLine m) (placed n e)
 unfolding placed movedLine
@@ -221,8 +230,7 @@ first-on : (j i : ℕ) → firstOn j (record { file = 1; line = i }) ≡ record 
 unfolding firstOn
 first-on j i = refl
 
-still-out : (x : Source) (inc : Include) (j k : ℕ) (ls : List Line) → 2 ≤ k → avoids x ls ≡ true →
-    ((n : Spot) (w : Text) → namesFirst x (include w) ≡ false → inc (firstOn j n) w ≡ map (movedLine (firstOn j)) (inc n w)) →
+still-out : (x : Source) (inc : Include) (j k : ℕ) (ls : List Line) → 2 ≤ k → avoids x ls ≡ true → Moves x j inc →
     outLines inc k ls ≡ map (movedLine (firstOn j)) (outLines inc k ls)
 unfolding outLines
 still-out x inc j k [] l a h = refl
@@ -237,8 +245,7 @@ still-out x inc j k (i ∷ ls) l a h =
 
 -- 3. The first file's lines, moved on.
 
-shift-out : (x : Source) (inc : Include) (j : ℕ) (ls : List Line) → avoids x ls ≡ true →
-    ((n : Spot) (w : Text) → namesFirst x (include w) ≡ false → inc (firstOn j n) w ≡ map (movedLine (firstOn j)) (inc n w)) →
+shift-out : (x : Source) (inc : Include) (j : ℕ) (ls : List Line) → avoids x ls ≡ true → Moves x j inc →
     outLines inc 1 (map (shifted j) ls) ≡ map (movedLine (firstOn j)) (outLines inc 1 ls)
 unfolding outLines shifted
 shift-out x inc j [] a h = refl
@@ -257,12 +264,11 @@ shift-out x inc j (i ∷ ls) a h =
     first-line = rw (entry-shifted j i, first-on j (i .number))
 
 module _ (j : ℕ) (x : Source) (f : File) (fs : List File) (o : Leads x f fs) where
-  still-below : (inc : Include) (k : ℕ) → 2 ≤ k →
-      ((n : Spot) (w : Text) → namesFirst x (include w) ≡ false → inc (firstOn j n) w ≡ map (movedLine (firstOn j)) (inc n w)) →
+  still-below : (inc : Include) (k : ℕ) → 2 ≤ k → Moves x j inc →
       outLines inc k (lines (bytesOf (filesOf (x .bundle)) k)) ≡ map (movedLine (firstOn j)) (outLines inc k (lines (bytesOf (filesOf (x .bundle)) k)))
   still-below inc k l h = still-out x inc j k (lines (bytesOf (filesOf (x .bundle)) k)) l (avoids-file x k (o .free)) h
 
-  moved-include : (d : ℕ) (n : Spot) (w : Text) → namesFirst x (include w) ≡ false → included d x (firstOn j n) w ≡ map (movedLine (firstOn j)) (included d x n w)
+  moved-include : (d : ℕ) → Moves x j (included d x)
   unfolding included
   moved-include zero n w a = go (badPath w) (eqb (named x w) 0)
     where
@@ -291,6 +297,30 @@ text-is x f fs o = ap (λ (s : Text). outLines (included deepest x) 1 (lines s))
 first-avoids : (x : Source) (f : File) (fs : List File) → Leads x f fs → avoids x (lines (f .bytes)) ≡ true
 first-avoids x f fs o = rw (file-first x f fs o) at (avoids-file x 1 (o .free))
 
+-- no other file is too long
+
+none-long : (b : Text) → bundleRefusals b ≡ [] → firstLong (filesOf b) ≡ 0
+unfolding bundleRefusals
+none-long b h = go (whole b) h
+  where
+    go : (t : Bool) →
+        cond t (refusedIf (not (eqb (firstLong (filesOf b)) 0)) 3 (placeOf (record { file = firstLong (filesOf b); line = 0 }))) (record { number = 12; place = 0 } ∷ []) ≡ [] →
+        firstLong (filesOf b) ≡ 0
+    go true e = eqb-true _ _ (not-false _ (clear-if (not (eqb (firstLong (filesOf b)) 0)) 3 _ e))
+    go false e = cc
+
+others-short : (f : File) (fs : List File) → firstLong (f ∷ fs) ≡ 0 → longFrom 2 fs ≡ 0
+unfolding firstLong longFrom
+others-short f fs h = go (ltb longestFile (length (f .bytes))) h
+  where
+    go : (t : Bool) → cond t 1 (longFrom 2 fs) ≡ 0 → longFrom 2 fs ≡ 0
+    go true e = absurd (omega arith)
+    go false e = e
+
+first-short : (f : File) (fs : List File) → length (f .bytes) ≤ longestFile → longFrom 2 fs ≡ 0 → firstLong (f ∷ fs) ≡ 0
+unfolding firstLong longFrom
+first-short f fs l h = rw (le-ltb longestFile (length (f .bytes)) l) h
+
 module _ (a b c : Source) (o : FirstJoined a b c) where
   pub text-joins : writtenOut c ≡ writtenOut a ++ map (movedLine (firstOn (physical (o .first .bytes)))) (writtenOut b)
   text-joins =
@@ -313,3 +343,36 @@ module _ (a b c : Source) (o : FirstJoined a b c) where
         ← text-is a (o .first) (o .others) (o .leads-a),
         ← text-is b (o .second) (o .others) (o .leads-b),
       )
+
+  -- The joined bundle is refused by none of 12 and 3 if that of a is not.
+  pub joined-bundle : bundleRefusals (a .bundle) ≡ [] → bundleRefusals (c .bundle) ≡ []
+  unfolding bundleRefusals refusedIf
+  joined-bundle h =
+      let z : longFrom 2 (o .others) ≡ 0 = others-short (o .first) (o .others) (rw (o .leads-a .files) at (none-long (a .bundle) h)) in
+      let k : firstLong (filesOf (c .bundle)) ≡ 0 = rw (o .leads-c .files) (first-short (o .both) (o .others) (o .size) z) in
+      rw (o .lent, k)
+
+-- a first file without include lines
+
+plain-line : (inc : Include) (n : Spot) (e : Entry) → isInclude e ≡ false → lineOut inc n e ≡ placed n e
+unfolding lineOut isInclude
+plain-line inc n ignored h = refl
+plain-line inc n (wrong k) h = refl
+plain-line inc n (group g ms) h = refl
+plain-line inc n (set s) h = refl
+plain-line inc n (rule ws) h = refl
+plain-line inc n (include w) h = absurd (no (sym h))
+
+plain-out : (inc : Include) (ls : List Line) → allOf (λ l. not (isInclude (entryOf l))) ls ≡ true → outLines inc 1 ls ≡ map onLine ls
+unfolding outLines allOf placed onLine
+plain-out inc [] h = refl
+plain-out inc (l ∷ ls) h =
+    let w = and-both (not (isInclude (entryOf l))) (allOf (λ i. not (isInclude (entryOf i))) ls) h in
+    let n : Spot = record { file = 1; line = l .number } in
+    rw (plain-line inc n (entryOf l) (not-true (isInclude (entryOf l)) (w .0)), plain-out inc ls (w .1))
+
+pub own-text : (x : Source) (f : File) (fs : List File) → filesOf (x .bundle) ≡ f ∷ fs → includesNothing (f .bytes) ≡ true → writtenOut x ≡ map onLine (lines (f .bytes))
+unfolding writtenOut includesNothing
+own-text x f fs e h =
+    ap (λ (s : Text). outLines (included deepest x) 1 (lines s)) (ap (λ (r : List File). bytesOf r 1) e ∙ bytes-first f fs)
+    ∙ plain-out (included deepest x) (lines (f .bytes)) h
