@@ -8,6 +8,7 @@ use lib.ListN.{length}
 use Rattle.text.specs.Bytes.{Text}
 use Rattle.text.proofs.Lists.{no}
 use Rattle.profile.specs.Profile.{Texts}
+use Rattle.rules.specs.Sections.{Placed}
 use Rattle.rules.specs.Written.{Source, included}
 use Rattle.reading.specs.declared.Reading.{Reading}
 use Rattle.reading.specs.declared.Walk.{Walk}
@@ -16,6 +17,17 @@ use Rattle.reading.specs.States.{Sound, Whole, ReadTo}
 use Rattle.reading.specs.Steps.{Leads, Closed, Stepped}
 use Rattle.reading.specs.Including.{fileOf, Lent, BeginsFile, AtInclude, FileWent, IncludeWent}
 use Rattle.reading.proofs.Includes.{sound-scratch}
+
+-- what is ahead, with an include line that waits or without
+ahead-none : (c : Around) (s : Text) (r : Reading) → r .waiting .some ≡ false → aheadOf c s r ≡ textFrom c s (r .at) (r .line)
+ahead-none c s r e = ap (λ (b : Bool). cond b (waitingText c s r) [] ++ textFrom c s (r .at) (r .line)) e
+
+ahead-some : (c : Around) (s : Text) (r : Reading) → r .waiting .some ≡ true → aheadOf c s r ≡ waitingText c s r ++ textFrom c s (r .at) (r .line)
+ahead-some c s r e = ap (λ (b : Bool). cond b (waitingText c s r) [] ++ textFrom c s (r .at) (r .line)) e
+
+read-as : (a : Whole) (n : ℕ) (s d : Text) (t rows : List ℕ) (flags : List Bool) (b : List ℕ) (w : Text) (p : Texts) (ls ls′ : List Placed) (r : Reading) → ls ≡ ls′ →
+    ReadTo a n s d t rows flags b w p ls r → ReadTo a n s d t rows flags b w p ls′ r
+read-as a n s d t rows flags b w p ls ls′ r e u = rw e at u
 
 module _ (x : Source) (k : Walk) (d₀ : Text) (t₀ rows₀ : List ℕ) (flags₀ : List Bool) (b : List ℕ) (w₀ : Text) where
   abbrev s : Text
@@ -50,7 +62,7 @@ module _ (x : Source) (k : Walk) (d₀ : Text) (t₀ rows₀ : List ℕ) (flags�
         leads = λ a c i j p u.
             record {
               refused = λ z. absurd (z (v .fault));
-              on = λ m. rw (v .none) u;
+              on = λ m. read-as a (k .n) s d₀ t₀ rows₀ flags₀ b w₀ p _ _ (k .reading) (sym (ahead-none c s (k .reading) (v .none))) u;
               end = λ z m. absurd (no (sym m ∙ v .more));
             };
       }
@@ -84,7 +96,8 @@ module _ (x : Source) (k : Walk) (d₀ : Text) (t₀ rows₀ : List ℕ) (flags�
               sound = λ z u h. sound-scratch (k .n) s d′ t′ rows′ flags′ b y′ u w′ r′ (g .sound z) (h ∙ sym (g .scratch ∙ v .scratch));
               waits = λ m z. g .waits z;
               ends = g .ends;
-              leads = λ a c i j p u. g .means a c (j ∙ sym (v .file on)) p (rw idle at (v .leads a c i j p u .on on));
+              leads = λ a c i j p u. 
+                  g .means a c (j ∙ sym (v .file on)) p (read-as a (k .n) s d t rows flags b w p _ _ r (ahead-none c s r idle) (v .leads a c i j p u .on on));
             }
 
         pub reads-less : turns-left r′ < turns-left r
@@ -115,7 +128,8 @@ module _ (x : Source) (k : Walk) (d₀ : Text) (t₀ rows₀ : List ℕ) (flags�
                 sound = λ z. go z (r′ .more) refl;
                 waits = λ m z. absurd (g .none z m);
                 ends = λ z m. absurd (g .stops m z);
-                leads = λ a c i j p u. g .means a c i (j ∙ sym (v .file on)) p (rw busy at (v .leads a c i j p u .on on));
+                leads = λ a c i j p u. 
+                    g .means a c i (j ∙ sym (v .file on)) p (read-as a (k .n) s d t rows flags b w p _ _ r (ahead-some c s r busy) (v .leads a c i j p u .on on));
               }
             where
               go : (r′ .more ≡ false → r′ .fault ≡ 0) → (c : Bool) → r′ .more ≡ c → Lent (k .n) s d′ t′ rows′ flags′ b w′ r′

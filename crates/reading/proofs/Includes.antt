@@ -4,7 +4,7 @@ use native.Mathlib.Omega.{arith}
 use mathlib.Core.Path.{_≡_, refl, sym, ap, _∙_}
 use mathlib.Core.List.{List, [], _∷_, _++_, append-assoc}
 use mathlib.Core.Bool.{Bool, true, false, cond}
-use lib.ListN.{length}
+use lib.ListN.{length, replicate, length-replicate}
 use lib.Dec.{eqb}
 use borrow.Author.Tests.{eq-eqb, ne-eqb}
 use Rattle.text.specs.declared.Refusal.{Refusal}
@@ -103,7 +103,7 @@ module _ (x : Source) (w : Text) (depth : ℕ) where
 
 -- it begins with no rule
 
-mark-rules : (n : Spot) (w : Text) (ls : List Placed) → rulesFrom (record { spot = n; entry = include w } ∷ ls) ≡ []
+pub mark-rules : (n : Spot) (w : Text) (ls : List Placed) → rulesFrom (record { spot = n; entry = include w } ∷ ls) ≡ []
 unfolding nextRules
 mark-rules n w ls = rules-line (record { spot = n; entry = include w }) ls
 
@@ -147,7 +147,11 @@ inner x d k n w ls =
 inner-text : (x : Source) (d k : ℕ) (n : Spot) (w : Text) (ls : List Placed) (s : Text) →
     between n w (outLines (included d x) k (lines s)) ++ ls ≡ record { spot = n; entry = include w } ∷ textFrom (inner x d k n w ls) s 0 1
 unfolding between placed textFrom
-inner-text x d k n w ls s = rw (first-lines s, append-assoc) refl
+inner-text x d k n w ls s =
+    let e : (outLines (included d x) k (lines s) ++ (record { spot = n; entry = include w } ∷ [])) ++ ls ≡
+    outLines (included d x) k (lines s) ++ (record { spot = n; entry = include w } ∷ ls) =
+    append-assoc (outLines (included d x) k (lines s)) (record { spot = n; entry = include w } ∷ []) ls in
+    rw (first-lines s) (ap (λ (z : List Placed). record { spot = n; entry = include w } ∷ z) e)
 
 -- the mark of an include line
 
@@ -337,3 +341,21 @@ module _ (x : Source) (d : Text) (t rows : List ℕ) (flags : List Bool) (b : Li
                   end = λ y m. absurd (no (sym m));
                 };
           }
+
+-- where the path stands, and a walk by its state
+
+pub include-path : (bundle d : Text) (t rows : List ℕ) (flags : List Bool) (b : List ℕ) (w : Text) (k : Walk) → AtInclude bundle d t rows flags b w k →
+    (k .reading .waiting .start ≤ k .reading .waiting .end) × (k .reading .waiting .end ≤ length (fileOf bundle k))
+include-path bundle d t rows flags b w k v =
+    let u = v .sound (replicate 8192 0) (length-replicate {A = ℕ} 8192 0) in (u .path .low, u .path .high)
+
+abbrev pub walkTo : ℕ → ℕ → ℕ → ℕ → Reading → Walk
+walkTo start end depth n r = record { start = start; end = end; depth = depth; n = n; reading = r }
+
+pub begins-as : (bundle d : Text) (t rows : List ℕ) (flags : List Bool) (b : List ℕ) (w : Text) (i j k n : ℕ) (r r′ : Reading) → r ≡ r′ →
+    BeginsFile bundle d t rows flags b w (walkTo i j k n r′) → BeginsFile bundle d t rows flags b w (walkTo i j k n r)
+begins-as bundle d t rows flags b w i j k n r r′ e v = rw e v
+
+pub went-as : (x : Source) (d d′ : Text) (t t′ rows rows′ : List ℕ) (flags flags′ : List Bool) (b : List ℕ) (w w′ : Text) (i j k n : ℕ) (r r′ q : Reading) → r ≡ r′ →
+    FileWent x d d′ t t′ rows rows′ flags flags′ b w w′ (walkTo i j k n r) q → FileWent x d d′ t t′ rows rows′ flags flags′ b w w′ (walkTo i j k n r′) q
+went-as x d d′ t t′ rows rows′ flags flags′ b w w′ i j k n r r′ q e v = rw e at v

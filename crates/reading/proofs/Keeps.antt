@@ -66,7 +66,7 @@ module _ (first m i : ℕ) (ps : List ℕ) where
 
 -- the right words of a rule with as many words as its heading asks
 
-first-components : (p : Profile) (l k : ℕ) (cs : List ℕ) (ws : Words) → ruleFires p l k cs ws ≡ ruleFires p l k (take (length ws) cs) ws
+first-components : (p : Profile) (l : Spot) (k : ℕ) (cs : List ℕ) (ws : Words) → ruleFires p l k cs ws ≡ ruleFires p l k (take (length ws) cs) ws
 unfolding ruleFires
 first-components p l k [] [] = refl
 first-components p l k [] (w ∷ ws) = refl
@@ -141,7 +141,7 @@ module _ (p : Profile) (o : OpenSet) (s : Text) (ps : List ℕ) (d₀ : Text) (q
           count : length (drop 1 (left s (getD ps k 0))) ≡ o .set .right
           count = length-drop 1 (left s (getD ps k 0)) ∙ omega (arith, w .count)
 
-          told : (l : ℕ) → ruleFires p l k (o .set .components) (drop 1 (left s (getD ps k 0))) ≡ ruleFires p l k (headingBy (o .set) .components) (drop 1 (left s (getD ps k 0)))
+          told : (l : Spot) → ruleFires p l k (o .set .components) (drop 1 (left s (getD ps k 0))) ≡ ruleFires p l k (headingBy (o .set) .components) (drop 1 (left s (getD ps k 0)))
           told l =
               first-components p l k (o .set .components) (drop 1 (left s (getD ps k 0)))
               ∙ ap (λ (y : List ℕ). ruleFires p l k y (drop 1 (left s (getD ps k 0)))) (ap (λ (i : ℕ). take i (o .set .components)) count ∙ sym (components-are (o .set) sized))

@@ -19,7 +19,9 @@ field-count-requires : tie.Need-field-count-requires
 field-count-requires c κs = search needs
 
 file-at-requires : tie.Need-file-at-requires
-file-at-requires c κs = (@start .pre .0, omega arith, some-file _ (@start .pre .0))
+file-at-requires c κs =
+    let start = c .before .before .before .before .before .before .before .before .before .before .before .before .before .before .before .before .before in
+    (start .pre .0, omega arith, some-file _ (start .pre .0))
 
 at-start-requires : tie.Need-at-start-requires
 at-start-requires c κs = search needs
@@ -29,21 +31,32 @@ slice-aggregate-read-file c = search needs
 
 read-file-requires : tie.Need-read-file-requires
 read-file-requires c κs =
-    let a = @start .args in
+    let start = c .before .before .before .before .before .before .before .before .before .before .before .before .before .before .before .before .before .before .before .before .before .before .before .before .before in
+    let the-compile = c .before .before .before .before .before .before .before .before .before .before .compile in
+    let the-field-count = c .before .before .before .before .before .before .before .before .field-count in
+    let the-file-at = c .before .before .before .before .before .before .before .file-at in
+    let the-at-start = c .before .before .before .before .before .before .at-start in
+    let a = start .args in
     let x = sourceOf (a .bundle .now) (a .home .now) (a .extra .now) (a .system .now) in
     let p = textsOf (a .model .now) (a .layouts .now) (a .variants .now) (a .options .now) in
-    (@start .pre .0, begins p _ _ _ _ _ _ (@compile .ensures) _ (@field-count .ensures) (@start .pre .1) x _ (@file-at .ensures) _ _ (@start .pre .2) (@start .pre .3) _ (@at-start .ensures))
+    (start .pre .0, begins p _ _ _ _ _ _ (the-compile .ensures) _ (the-field-count .ensures) (start .pre .1) x _ (the-file-at .ensures) _ _ (start .pre .2) (start .pre .3) _ (the-at-start .ensures))
 
 same-length : tie.Need-same-length
 same-length c = search needs
 
 returns : tie.Need-returns
 returns c =
-    let a = @start .args in
+    let start = c .before .before .before .before .before .before .before .before .before .before .before .before .before .before .before .before .before .before .before .before .before .before .before .before .before .before .before .before .before .before in
+    let the-compile = c .before .before .before .before .before .before .before .before .before .before .before .before .before .before .before .compile in
+    let the-field-count = c .before .before .before .before .before .before .before .before .before .before .before .before .before .field-count in
+    let the-file-at = c .before .before .before .before .before .before .before .before .before .before .before .before .file-at in
+    let the-at-start = c .before .before .before .before .before .before .before .before .before .before .before .at-start in
+    let the-read-file = c .before .before .before .before .read-file in
+    let a = start .args in
     let x = sourceOf (a .bundle .now) (a .home .now) (a .extra .now) (a .system .now) in
     let p = textsOf (a .model .now) (a .layouts .now) (a .variants .now) (a .options .now) in
-    read-told p _ _ _ _ _ _ (@compile .ensures) _ (@field-count .ensures) (@start .pre .1) x _ (@file-at .ensures) _ _ (@start .pre .2) (@start .pre .3) _ (@at-start .ensures) _ _ _ _ _ _
-    (@read-file .ensures) _ refl
+    read-told p _ _ _ _ _ _ (the-compile .ensures) _ (the-field-count .ensures) (start .pre .1) x _ (the-file-at .ensures) _ _ (start .pre .2) (start .pre .3) _ (the-at-start .ensures) _ _ _ _ _ _
+    (the-read-file .ensures) _ refl
 
 pub read-for-spec : {M : Type 1} → statement M
 read-for-spec =

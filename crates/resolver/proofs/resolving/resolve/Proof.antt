@@ -4,7 +4,7 @@ use Rattle.resolver.proofs.resolving.resolve.Statement.{statement}
 use Rattle.resolver.proofs.resolving.resolve.Tie as tie
 use native.Mathlib.Omega.{arith}
 use mathlib.Core.Path.{sym, _∙_}
-use Rattle.resolver.proofs.Resolves.{accepts, sum-accepted, low-accepted, low-placed, part-low, lines-clear, read-again, buffer-kept, buffer-copied, buffer-written}
+use Rattle.resolver.proofs.Resolves.{accepts, sum-accepted, low-accepted, low-placed, part-low, lines-clear, whole-clear, read-again, buffer-kept, buffer-copied, buffer-written}
 
 slice-aggregate-staged : tie.Need-slice-aggregate-staged
 slice-aggregate-staged c = search needs
@@ -83,7 +83,7 @@ read-for-requires c κs =
     let r = the-staged .ensures .result in
     let a = accepts _ _ _ _ r (the-if1 .left) in
     let p = the-places .ensures in
-    (a .profile, part-low _ _ _ (p .1 ∙ sum-accepted _ _ _ _ r a) (a .fits) (a .low), low-placed _ _ _ _ r a _ (p .0))
+    (whole-clear _ (a .file), a .profile, part-low _ _ _ (p .1 ∙ sum-accepted _ _ _ _ r a) (a .fits) (a .low), low-placed _ _ _ _ r a _ (p .0))
 
 same-length-2 : tie.Need-same-length-2
 same-length-2 c = search needs
