@@ -12,6 +12,7 @@ use Rattle.text.specs.Limits.{longestTotal, mostGroups}
 use Rattle.text.specs.Bytes.{Text, allOf, apart}
 use Rattle.text.specs.Refusals.{refusedIf, isNumber, hasNumber}
 use Rattle.text.proofs.Lists.{and-both, neither, all-append, nil-left, nil-right}
+use Rattle.text.proofs.Joined.{physical}
 use Rattle.text.proofs.Numbers.{if-number, clear-if}
 use Rattle.profile.specs.Profile.{Texts, profileOf}
 use Rattle.profile.specs.Options.{Alike, Within, withOptions}
@@ -21,8 +22,10 @@ use Rattle.profile.proofs.Numbers.{profile-numbers}
 use Rattle.rules.specs.Written.{Source, writtenOut}
 use Rattle.rules.specs.Faults.{Group, lineFaults, bundleRefusals, fileRefusals}
 use Rattle.rules.specs.Names.{groupsOf, definesOf, namesOf}
+use Rattle.rules.specs.Joined.{FirstJoined, firstOn}
 use Rattle.rules.proofs.Shifted.{Move, movedLine}
 use Rattle.rules.proofs.Joined.{joined-lines}
+use Rattle.rules.proofs.Includes.{text-joins, joined-bundle}
 use Rattle.rules.proofs.Numbers.{file-numbers}
 use Rattle.answers.specs.Firings.{Firing, fileFirings}
 use Rattle.answers.specs.Answer.{textsFrom, tenTexts, total, noRoom, refusals, accepted, firstOf, answer, Answered}
@@ -77,8 +80,8 @@ length-names : (gs : List Group) → length (map (λ g. g .name) gs) ≡ length 
 length-names [] = refl
 length-names (g ∷ gs) = rw (length-names gs)
 
--- the text of c is that of a, then that of b at other places
-module _ (a b c : Source) (m : Move) (text : writtenOut c ≡ writtenOut a ++ map (movedLine m) (writtenOut b)) (t : Texts) (room-a room-b room : ℕ) (xs ys : List Text)
+-- the first file of c is that of a, then that of b
+module _ (a b c : Source) (o : FirstJoined a b c) (t : Texts) (room-a room-b room : ℕ) (xs ys : List Text)
     (acc-a : answer room-a a t ≡ accepted xs) (acc-b : answer room-b b t ≡ accepted ys) (names : apart (namesOf b) (definesOf a) ≡ true) where
   first-a : (refusals room-a a t ≡ []) × (tenTexts a t ≡ xs)
   unfolding answer
@@ -88,24 +91,39 @@ module _ (a b c : Source) (m : Move) (text : writtenOut c ≡ writtenOut a ++ ma
   unfolding answer
   first-b = accepted-first (refusals room-b b t) (tenTexts b t) ys acc-b
 
+  file-a : fileRefusals a ≡ []
+  unfolding refusals
+  file-a = nil-left (fileRefusals a) _ (nil-right (profileRefusals t) _ (first-a .0))
+
   lines-a : lineFaults a ≡ []
-  unfolding refusals fileRefusals
-  lines-a = nil-right (bundleRefusals (a .bundle)) _ (nil-left (fileRefusals a) _ (nil-right (profileRefusals t) _ (first-a .0)))
+  unfolding fileRefusals
+  lines-a = nil-right (bundleRefusals (a .bundle)) _ file-a
 
   lines-b : lineFaults b ≡ []
   unfolding refusals fileRefusals
   lines-b = nil-right (bundleRefusals (b .bundle)) _ (nil-left (fileRefusals b) _ (nil-right (profileRefusals t) _ (first-b .0)))
 
+  -- where the lines of b stand in c
+  abbrev m : Move
+  m = firstOn (physical (o .first .bytes))
+
+  text : writtenOut c ≡ writtenOut a ++ map (movedLine m) (writtenOut b)
+  text = text-joins a b c o
+
+  bundle-c : bundleRefusals (c .bundle) ≡ []
+  unfolding fileRefusals
+  bundle-c = joined-bundle a b c o (nil-left (bundleRefusals (a .bundle)) _ file-a)
+
   texts-c : tenTexts c t ≡ together xs ys
   texts-c = joined-texts a b c m text lines-a lines-b names t ∙ rw (first-a .1, first-b .1)
 
-  pub joined-answer : bundleRefusals (c .bundle) ≡ [] → length (definesOf a) + length (definesOf b) ≤ mostGroups →
+  pub joined-answer : length (definesOf a) + length (definesOf b) ≤ mostGroups →
       total (together xs ys) ≤ longestTotal → total (together xs ys) ≤ room → answer room c t ≡ accepted (together xs ys)
   unfolding answer refusals fileRefusals refusedIf noRoom firstOf definesOf
-  joined-answer size groups top fits =
+  joined-answer groups top fits =
       let p : profileRefusals t ≡ [] = nil-left (profileRefusals t) _ (first-a .0) in
       let g : length (groupsOf a) + length (groupsOf b) ≤ mostGroups = rw (length-names (groupsOf a), length-names (groupsOf b)) at groups in
-      rw (p, size, joined-lines a b c m text lines-a lines-b names g, texts-c, le-ltb room _ fits, le-ltb longestTotal _ top)
+      rw (p, bundle-c, joined-lines a b c m text lines-a lines-b names g, texts-c, le-ltb room _ fits, le-ltb longestTotal _ top)
 
 pub options-answer : (room : ℕ) (f : Source) (t : Texts) (o o′ : Text) → Alike o o′ → Within o → Within o′ →
     answer room f (withOptions t o) ≡ answer room f (withOptions t o′)

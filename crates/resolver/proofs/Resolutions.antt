@@ -10,10 +10,9 @@ use Rattle.text.specs.Limits.{longestTotal, mostGroups}
 use Rattle.text.specs.Bytes.{Text, apart}
 use Rattle.profile.specs.Profile.{Texts}
 use Rattle.profile.specs.Options.{Alike, Within, withOptions}
-use Rattle.rules.specs.Written.{Source, writtenOut}
-use Rattle.rules.specs.Faults.{bundleRefusals}
+use Rattle.rules.specs.Written.{Source}
 use Rattle.rules.specs.Names.{definesOf, namesOf}
-use Rattle.rules.proofs.Shifted.{Move, movedLine}
+use Rattle.rules.specs.Joined.{FirstJoined}
 use Rattle.answers.specs.declared.Outcome.{Outcome}
 use Rattle.answers.specs.Answer.{tenTexts, sum, joined, total, Answer, refused, accepted, answer, numberOf, placeOf, lengthsOf, outcome, bufferAfter, Answered, Resolved, textsIn}
 use Rattle.answers.specs.Joined.{together}
@@ -75,25 +74,25 @@ holds f t d d′ r ts is g h v =
 pub held : (f : Source) (t : Texts) (d d′ : Text) (r : Outcome) → Resolved f t d d′ r → r .number ≡ 0 → Holds f t d d′ r
 held f t d d′ r v h = let a = accepts (length d) f t r (v .result) h in holds f t d d′ r (tenTexts f t) (a .is) refl (a .fits) v
 
--- joined texts: that of g is that of a, then that of b at other places
-module _ (a b g : Source) (m : Move) (text : writtenOut g ≡ writtenOut a ++ map (movedLine m) (writtenOut b)) (t : Texts) (c c′ : Text) (x : Outcome) (e e′ : Text) (y : Outcome) (d d′ : Text) (z : Outcome)
+-- joined first files: that of g is that of a, then that of b
+module _ (a b g : Source) (o : FirstJoined a b g) (t : Texts) (c c′ : Text) (x : Outcome) (e e′ : Text) (y : Outcome) (d d′ : Text) (z : Outcome)
     (first : Resolved a t c c′ x) (second : Resolved b t e e′ y) (both : Resolved g t d d′ z)
     (n : x .number ≡ 0) (k : y .number ≡ 0) where
   texts : together (textsIn c′ (x .lengths)) (textsIn e′ (y .lengths)) ≡ together (tenTexts a t) (tenTexts b t)
   texts = rw (held a t c c′ x first n .texts, held b t e e′ y second k .texts) refl
 
-  pub joined-resolve : apart (namesOf b) (definesOf a) ≡ true → bundleRefusals (g .bundle) ≡ [] →
+  pub joined-resolve : apart (namesOf b) (definesOf a) ≡ true →
       length (definesOf a) + length (definesOf b) ≤ mostGroups → total (together (textsIn c′ (x .lengths)) (textsIn e′ (y .lengths))) ≤ longestTotal →
       total (together (textsIn c′ (x .lengths)) (textsIn e′ (y .lengths))) ≤ length d →
       (z .number ≡ 0) × (textsIn d′ (z .lengths) ≡ together (textsIn c′ (x .lengths)) (textsIn e′ (y .lengths)))
   unfolding outcome numberOf
-  joined-resolve names size groups top fits =
+  joined-resolve names groups top fits =
       let p = accepts (length c) a t x (first .result) n in
       let q = accepts (length e) b t y (second .result) k in
       let u : total (together (tenTexts a t) (tenTexts b t)) ≤ longestTotal = rw (sym texts) top in
       let w : total (together (tenTexts a t) (tenTexts b t)) ≤ length d = rw (sym texts) fits in
-      let j = joined-answer a b g m text t (length c) (length e) (length d) (tenTexts a t) (tenTexts b t) (p .is) (q .is) names size groups u w in
-      let i : z .number ≡ 0 = ap (λ (o : Outcome). o .number) (both .result ∙ ap outcome j) in
+      let j = joined-answer a b g o t (length c) (length e) (length d) (tenTexts a t) (tenTexts b t) (p .is) (q .is) names groups u w in
+      let i : z .number ≡ 0 = ap (λ (r : Outcome). r .number) (both .result ∙ ap outcome j) in
       let r = accepts (length d) g t z (both .result) i in
       (i, held g t d d′ z both i .texts ∙ same-texts (sym (r .is) ∙ j) ∙ sym texts)
     where

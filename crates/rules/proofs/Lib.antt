@@ -1,6 +1,7 @@
 pub mod Shifted
 pub mod Fresh
 pub mod Joined
+pub mod Includes
 pub mod Numbers
 pub mod Kind
 pub mod Splits

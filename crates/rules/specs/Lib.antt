@@ -6,6 +6,7 @@ pub mod Sections
 pub mod Written
 pub mod Faults
 pub mod Names
+pub mod Joined
 pub mod Splitting
 pub mod Checking
 pub mod Sets
