@@ -372,24 +372,36 @@ static void clear(diagnosis *d, unsigned number, const rules_file *file)
     d->text = TEXTS;
 }
 
-int diagnose(bundle *b, verdict v, size_t most, shower show, void *with)
+/* Shows one fault, and tells where it is. */
+static void one_fault(const bundle *b, verdict v, scene *s, shower show, void *with)
 {
     diagnosis d;
+
+    set_scene(b, v, s);
+    clear(&d, v.number, &b->files[v.file]);
+    if (v.place != 0)
+        diagnose_line(b, v, s, &d);
+    else
+        snprintf(d.said, sizeof d.said, "%s", xkbrules_message(v.number));
+    d.unread = d.unread || v.number == XKBRULES_LONG_FILE;
+    set_chain(s, &d);
+    show(&d, with);
+}
+
+void diagnose_first(const bundle *b, verdict v, shower show, void *with)
+{
+    scene s;
+
+    one_fault(b, v, &s, show, with);
+}
+
+int diagnose(bundle *b, verdict v, size_t most, shower show, void *with)
+{
     scene s;
     size_t shown = 0;
 
     for (int changed = 1; changed && v.number != 0 && shown < most; shown++) {
-        set_scene(b, v, &s);
-        clear(&d, v.number, &b->files[v.file]);
-        if (v.place != 0)
-            diagnose_line(b, v, &s, &d);
-        else
-            snprintf(d.said, sizeof d.said, "%s", xkbrules_message(v.number));
-        d.unread = d.unread || v.number == XKBRULES_LONG_FILE;
-        set_chain(&s, &d);
-        show(&d, with);
-        if (v.number == XKBRULES_NO_ROOM)
-            return 0;
+        one_fault(b, v, &s, show, with);
         changed = blank(b, v.number, &s);
         v = ask_on(b, NULL);
     }

@@ -472,6 +472,8 @@ static void no_file(const scene *s, diagnosis *d)
         say(d, " can't be read: ");
     }
     say(d, "%s", s->b->why);
+    if (begins_with(s->bytes, d->mark, '"'))
+        say(d, "; a path stands without quotes");
 }
 
 /* The files from the one that was given to the one that is not read any more, by their names. */

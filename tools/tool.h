@@ -201,6 +201,9 @@ typedef void (*shower)(const diagnosis *d, void *with);
 /* Shows the faults of a bundle that the library refuses with `first`, at most `most` of them; 1 if there are more. */
 int diagnose(bundle *b, verdict first, size_t most, shower show, void *with);
 
+/* Shows the first alone, and asks for no more files. */
+void diagnose_first(const bundle *b, verdict first, shower show, void *with);
+
 /* The fault of a profile that is refused at a text. */
 void diagnose_profile(const profile *p, verdict v, diagnosis *d);
 

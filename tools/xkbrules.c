@@ -266,7 +266,7 @@ static int print_answer(const request *asked, const profile *p)
     return printed(GOOD);
 }
 
-static int refuse(bundle *b, const profile *p, verdict v, const request *asked)
+static int refuse(const bundle *b, const profile *p, verdict v, const request *asked)
 {
     report r = {asked, p, 0, GOOD, 0};
 
@@ -275,7 +275,7 @@ static int refuse(bundle *b, const profile *p, verdict v, const request *asked)
     if (v.number == XKBRULES_BAD_TEXT || v.number == XKBRULES_TOO_MANY)
         show_text_fault(p, v, &r);
     else
-        diagnose(b, v, 1, show_fault, &r);
+        diagnose_first(b, v, show_fault, &r);
     if (asked->json)
         fputs("\n]}\n", stdout);
     return printed(r.status);
