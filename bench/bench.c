@@ -14,14 +14,14 @@
 
 #include "xkbrules.h"
 
-static uint8_t rules[XKBRULES_ROOM + 1];
-static size_t rules_len;
+static uint8_t bundle[XKBRULES_LONE_BUNDLE]; /* the file, without a name and alone */
+static size_t bundle_len;
 static char **profile;
 static uint8_t texts[XKBRULES_MOST_ROOM], sheet[XKBRULES_SHEET];
 
 static uint64_t resolve(void)
 {
-    return xkbrules_resolve(rules, rules_len,
+    return xkbrules_resolve(bundle, bundle_len, NULL, 0, NULL, 0, NULL, 0,
                             (const uint8_t *)profile[0], strlen(profile[0]),
                             (const uint8_t *)profile[1], strlen(profile[1]),
                             (const uint8_t *)profile[2], strlen(profile[2]),
@@ -92,6 +92,7 @@ static size_t touched(void *(*run)(void *))
 
 int main(int argc, char **argv)
 {
+    static uint8_t rules[XKBRULES_LONGEST_FILE + 1];
     FILE *file;
 
     if (argc != 7) {
@@ -103,7 +104,7 @@ int main(int argc, char **argv)
         perror(argv[2]);
         return 2;
     }
-    rules_len = fread(rules, 1, sizeof rules, file);
+    bundle_len = xkbrules_pack(rules, fread(rules, 1, sizeof rules, file), bundle, sizeof bundle);
     fclose(file);
     profile = argv + 3;
     if (strcmp(argv[1], "time") == 0) {

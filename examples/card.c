@@ -10,9 +10,10 @@
 
 #include "xkbrules.h"
 
+/* The place is a text of the profile, a line of the rules, or none: there is one file alone. */
 static int refused(uint64_t answer)
 {
-    fprintf(stderr, "card: refused %u at %llu\n", xkbrules_number(answer), (unsigned long long)xkbrules_place(answer));
+    fprintf(stderr, "card: refused %u at %lu\n", xkbrules_number(answer), (unsigned long)xkbrules_place_line(answer));
     return 1;
 }
 
@@ -24,11 +25,11 @@ static int failed(const char *about)
 
 static int server(char **argv)
 {
-    static uint8_t rules[XKBRULES_MOST_FILE + 1]; /* one more than may be, so that a longer file is refused and not cut */
-    static uint8_t texts[XKBRULES_ROOM], card[XKBRULES_MOST_CARD];
+    static uint8_t rules[XKBRULES_LONGEST_FILE + 1]; /* one more than may be, so that a longer file is refused and not cut */
+    static uint8_t bundle[XKBRULES_LONE_BUNDLE], texts[XKBRULES_ROOM], card[XKBRULES_MOST_CARD];
     uint8_t sheet[XKBRULES_SHEET];
     const uint8_t *in[4];
-    size_t len[4], rules_len;
+    size_t len[4], rules_len, bundle_len;
     uint64_t answer;
     FILE *file = fopen(argv[0], "rb");
 
@@ -43,7 +44,10 @@ static int server(char **argv)
         len[i] = strlen(argv[i + 1]);
     }
 
-    answer = xkbrules_resolve(rules, rules_len, in[0], len[0], in[1], len[1], in[2], len[2], in[3], len[3], texts, sizeof texts, sheet, sizeof sheet);
+    /* The rules without include lines; seat.c follows them. */
+    bundle_len = xkbrules_pack(rules, rules_len, bundle, sizeof bundle);
+    answer = xkbrules_resolve(bundle, bundle_len, NULL, 0, NULL, 0, NULL, 0, in[0], len[0], in[1], len[1], in[2], len[2], in[3], len[3],
+                              texts, sizeof texts, sheet, sizeof sheet);
     if (xkbrules_number(answer) != XKBRULES_ACCEPTED)
         return refused(answer);
     answer = xkbrules_card_write(in[0], len[0], in[1], len[1], in[2], len[2], in[3], len[3], texts, sizeof texts, sheet, sizeof sheet, card, sizeof card);

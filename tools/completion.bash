@@ -1,8 +1,8 @@
-# Completion of xkbrules for bash: commands, options, files. For the value of an option it has nothing to offer.
+# Completion of xkbrules for bash: commands, options, files. For the value of an option it has folders or nothing to offer.
 _xkbrules()
 {
     local word=${COMP_WORDS[COMP_CWORD]} before=${COMP_WORDS[COMP_CWORD - 1]} command= i words
-    local profile='-m --model -l --layout -v --variant -o --option'
+    local profile='-m --model -l --layout -v --variant -o --option' paths='--home --extra --system'
 
     COMPREPLY=()
     for ((i = 1; i < COMP_CWORD; i++)); do
@@ -12,11 +12,15 @@ _xkbrules()
     done
     case $before in
         -m | --model | -l | --layout | -v | --variant | -o | --option | --options | --limit) return ;;
+        --home | --extra | --system)
+            compopt -o filenames 2> /dev/null
+            mapfile -t COMPREPLY < <(compgen -d -- "$word")
+            return ;;
     esac
     case $command in
-        check) words='--all --limit --json' ;;
-        resolve) words="$profile --keymap --json" ;;
-        card) words=$profile ;;
+        check) words="--all --limit --json $paths" ;;
+        resolve) words="$profile --keymap --json $paths" ;;
+        card) words="$profile $paths" ;;
         show-card) words= ;;
         *) words='check resolve card show-card --help --version' ;;
     esac

@@ -1,5 +1,6 @@
-/* The spot of a fault, and all faults of a file. Both are found by asking the library about files made from the
-   one given.
+/* The spot of a fault, and all faults of a file and of those that it includes. Both are found by asking the library
+   about files made from those given: it is the file with the fault that is cut, completed or blanked, wherever it
+   stands in the bundle.
 
    The spot of a refused line is the last byte of its shortest prefix that is refused so, however the line goes on:
    with `* = a` under a heading that asks two right words, the rest of the line could still bring the second, so
@@ -7,12 +8,13 @@
    so, each shorter one can too, by what it lacks of the longer and then the same; so the longest one that can is
    found by halving. Of all ways to go on some are tried, those that complete a word and give the words that are
    missing. Where none of these helps but another would, the spot is too far left; number and line are the
-   library's in any case.
+   library's in any case. 13 and 14 are about the path as a whole, and their spot is its start.
 
    For all faults, a line that is refused is blanked and the library asked again. The rules under a refused
    heading, and those that have no heading, are blanked with it: they can't be judged before it is right. Hidden is
    therefore a fault of such a rule, a second fault of a line, and a group that is defined again behind a refused
-   line that defines it. */
+   line that defines it. Where a group is defined again since its file is included again, the second include line is
+   blanked. A file that is too long is left out. */
 #include <stdlib.h>
 #include <string.h>
 
@@ -23,7 +25,6 @@ enum { MOST_TAIL = 64 };
 /* A file that is asked about with one line cut and completed. */
 typedef struct {
     bundle b;
-    rules_file *files;
     size_t file;
     uint8_t *bytes;       /* of that file, with room for a tail */
     size_t from;          /* where the line begins in it */
@@ -39,14 +40,20 @@ typedef struct {
 
 static verdict ask_bytes(trial *t, size_t len)
 {
-    t->files[t->file].bytes = t->bytes;
-    t->files[t->file].len = len;
+    t->b.files[t->file].left = t->bytes;
+    t->b.files[t->file].left_len = len;
     return ask(&t->b);
+}
+
+/* The numbers of one line in their order: 15 stands before 13. */
+static unsigned rank(unsigned number)
+{
+    return number == XKBRULES_BAD_PATH ? XKBRULES_NO_FILE - 1 : number;
 }
 
 static int refused_so(const trial *t, verdict v)
 {
-    return v.number == XKBRULES_LONG_FILE || (v.file == t->file && v.place == t->place && v.number != 0 && v.number <= t->number);
+    return v.number == XKBRULES_LONG_FILE || (v.file == t->file && v.place == t->place && v.number != 0 && rank(v.number) <= rank(t->number));
 }
 
 /* Whether the cut line is no longer refused so with this behind it. */
@@ -159,7 +166,7 @@ static int any_keyword_passes(trial *t)
     for (size_t i = 0; components[i] != NULL; i++)
         if (keyword_passes(t, l.last, components[i]))
             return 1;
-    return indexed_passes(t, l.last, "layout") || indexed_passes(t, l.last, "variant");
+    return keyword_passes(t, l.last, "include") || indexed_passes(t, l.last, "layout") || indexed_passes(t, l.last, "variant");
 }
 
 static int any_stem_passes(trial *t, const char *const *stems)
@@ -171,20 +178,21 @@ static int any_stem_passes(trial *t, const char *const *stems)
 }
 
 /* Whether some way to go on from the cut is not refused so. A backslash or a CR may have its LF still to come; a
-   slash its second; `$` and `=` become words by a letter; a percent item may be completed; a group's name may
-   become another. */
+   slash its second; `$` and `=` become words by a letter; a percent item, of a value or of a path, may be completed; a
+   group's name may become another. */
 static int can_go_on(trial *t, size_t cut)
 {
     static const char *const any[] = {"", "x", "/", NULL};
     static const char *const feed[] = {"\n", NULL};
     static const char *const items[] = {"l", "]", "1]", "i]", ")", "])", "1])", "i])", "l)", NULL};
+    static const char *const paths[] = {"H", NULL};
     static const char *const names[] = {"~~~", NULL};
     uint8_t last = t->bytes[cut - 1];
 
     t->cut = cut;
     return passes(t, "") || any_stem_passes(t, any) || ((last == '\\' || last == '\r') && (passes(t, feed[0]) || any_stem_passes(t, feed)))
         || (t->scene->line.heading && any_keyword_passes(t)) || (t->number == XKBRULES_BAD_PERCENT && any_stem_passes(t, items))
-        || (t->number == XKBRULES_BAD_GROUP && any_stem_passes(t, names));
+        || (t->number == XKBRULES_BAD_PATH && any_stem_passes(t, paths)) || (t->number == XKBRULES_BAD_GROUP && any_stem_passes(t, names));
 }
 
 /* -- The spot -- */
@@ -205,8 +213,8 @@ static size_t find_cut(trial *t)
     return bad - 1;
 }
 
-/* A file of the line and its heading alone, where the library refuses that so as well. No number but that of a group
-   depends on more; and short files are quickly asked about, and have room for a tail. */
+/* A file of the line and its heading alone, where the library refuses that so as well. Few numbers depend on more; and
+   short files are quickly asked about, and have room for a tail. */
 static int small_trial(trial *t, const scene *s)
 {
     verdict v;
@@ -214,6 +222,7 @@ static int small_trial(trial *t, const scene *s)
 
     t->file = 0;
     t->b.count = 1;
+    t->b.files[0].path_len = 0;
     if (s->kind != NO_HEADING) {
         n = s->heading.end - s->heading.from;
         memcpy(t->bytes, s->bytes + s->heading.from, n);
@@ -235,7 +244,7 @@ static void whole_trial(trial *t, const bundle *b, verdict v, const scene *s)
     t->place = v.place;
     t->file = v.file;
     t->b.count = b->count;
-    memcpy(t->files, b->files, b->count * sizeof *b->files);
+    memcpy(t->b.files, b->files, b->count * sizeof *b->files);
 }
 
 static size_t find_spot(const bundle *b, verdict v, const scene *s)
@@ -243,90 +252,116 @@ static size_t find_spot(const bundle *b, verdict v, const scene *s)
     trial t;
     size_t spot = s->line.from;
 
+    if ((v.number == XKBRULES_NO_FILE || v.number == XKBRULES_TOO_DEEP) && s->line.count > 1)
+        return s->line.words[1].from;
     memset(&t, 0, sizeof t);
     t.scene = s;
     t.number = v.number;
-    t.bytes = calloc(XKBRULES_MOST_FILE + 2 * MOST_TAIL, 1); /* a heading and a line of one file, and a tail */
-    t.files = calloc(b->count, sizeof *b->files);
-    t.b.files = t.files;
+    t.bytes = memset(claim(NULL, XKBRULES_LONGEST_FILE + 2 * MOST_TAIL), 0, XKBRULES_LONGEST_FILE + 2 * MOST_TAIL); /* a heading and a line of one file, and a tail */
+    t.b = *b;
+    t.b.files = memcpy(claim(NULL, b->count * sizeof *b->files), b->files, b->count * sizeof *b->files);
     if (s->kind == SET_HEADING && s->heading.equals == 1) {
         t.left = s->heading.first_equals;
         t.right = s->heading.count - t.left - 1;
     }
-    if (t.bytes != NULL && t.files != NULL) {
-        if (!small_trial(&t, s))
-            whole_trial(&t, b, v, s);
-        spot += find_cut(&t) - t.from;
-    }
+    if (!small_trial(&t, s))
+        whole_trial(&t, b, v, s);
+    spot += find_cut(&t) - t.from;
     free(t.bytes);
-    free(t.files);
+    free(t.b.files);
     return spot;
 }
 
 /* -- One fault -- */
 
-static void set_scene(const rules_file *file, size_t number, scene *s)
+static shown_line line_at(const bundle *b, place p)
 {
-    s->bytes = file->bytes;
-    s->len = file->len;
-    s->first = number;
-    read_line(file->bytes, file->len, line_start(file->bytes, file->len, number), &s->line);
-    s->kind = heading_above(file->bytes, file->len, s->line.from, &s->heading);
+    shown_line l = {&b->files[p.file], line_number(b->files[p.file].bytes, p.at)};
+
+    return l;
+}
+
+static void set_scene(const bundle *b, verdict v, scene *s)
+{
+    const rules_file *file = &b->files[v.file];
+
+    memset(s, 0, sizeof *s);
+    s->b = b;
+    s->bytes = file->left;
+    s->len = file->left_len;
+    s->first = v.place;
+    s->fault.file = v.file;
+    s->fault.at = line_start(s->bytes, s->len, v.place);
+    read_line(s->bytes, s->len, s->fault.at, &s->line);
+    s->kind = heading_above(s->bytes, s->len, s->line.from, &s->heading);
+    find_reading(b, v.number, s->fault, &s->reading);
+}
+
+static void set_chain(const scene *s, diagnosis *d)
+{
+    const way *here = &s->reading.here;
+
+    for (size_t i = here->depth; s->reading.known && i-- > 0;)
+        d->chain[d->depth++] = line_at(s->b, here->from[i]);
 }
 
 static void diagnose_line(const bundle *b, verdict v, const scene *s, diagnosis *d)
 {
+    const place *from, *before;
+
     d->at = find_spot(b, v, s);
-    d->also_file = d->file;
+    d->unread = v.number == XKBRULES_NO_FILE && b->unread;
     reason_line(s, d);
     d->line = line_number(s->bytes, d->at);
     d->column = d->at - line_start(s->bytes, s->len, d->line) + 1;
+    if (v.number != XKBRULES_BAD_GROUP || !s->reading.again)
+        return;
+    if (!is_read_again(b, &s->reading, s->fault, &from, &before)) {
+        d->also = "first defined here";
+        d->also_line = line_at(b, s->reading.defined);
+    } else if (before != NULL) {
+        d->also = "first included here";
+        d->also_line = line_at(b, *before);
+    }
 }
 
 /* -- All faults -- */
 
-/* Blanks the line and, where a heading is missing or refused, the rules up to the next one. 0 if that changes
+/* Blanks a line of a file and, where its heading is missing or refused, the rules up to the next one. 0 if that changes
    nothing. */
-static int blank(rules_file *file, const scene *s)
+static int blank_line(rules_file *file, const line *bad, int orphans)
 {
-    int orphans = s->line.heading || s->kind != SET_HEADING, changed = 0;
-    line l = s->line;
-    size_t to = l.to;
+    int changed = 0;
+    line l;
+    size_t to = bad->to;
 
-    while (orphans && to < file->len) {
-        read_line(file->bytes, file->len, to, &l);
+    while (orphans && to < file->left_len) {
+        read_line(file->left, file->left_len, to, &l);
         if (l.heading)
             break;
         to = l.to;
     }
-    for (size_t i = s->line.from; i < to; i++)
-        if (file->bytes[i] != '\n' && file->bytes[i] != ' ') {
-            file->bytes[i] = ' ';
+    for (size_t i = bad->from; i < to; i++)
+        if (file->left[i] != '\n' && file->left[i] != ' ') {
+            file->left[i] = ' ';
             changed = 1;
         }
     return changed;
 }
 
-static int copy_files(const bundle *b, bundle *copy)
+static int blank(bundle *b, unsigned number, const scene *s)
 {
-    copy->files = calloc(b->count, sizeof *b->files);
-    copy->count = 0;
-    for (; copy->files != NULL && copy->count < b->count; copy->count++) {
-        rules_file *file = &copy->files[copy->count];
-        *file = b->files[copy->count];
-        file->bytes = malloc(file->len + 1);
-        if (file->bytes == NULL)
-            return 0;
-        memcpy(file->bytes, b->files[copy->count].bytes, file->len);
-    }
-    return copy->files != NULL;
-}
+    const place *from, *before;
+    line l;
 
-static void free_files(bundle *copy)
-{
-    for (size_t i = 0; copy->files != NULL && i < copy->count; i++)
-        free(copy->files[i].bytes);
-    free(copy->files);
+    if (number == XKBRULES_LONG_FILE) {
+        b->files[s->fault.file].left_len = 0;
+        return 1;
+    }
+    if (number != XKBRULES_BAD_GROUP || !is_read_again(s->b, &s->reading, s->fault, &from, &before))
+        return blank_line(&b->files[s->fault.file], &s->line, s->line.heading || s->kind != SET_HEADING);
+    read_line(b->files[from->file].left, b->files[from->file].left_len, from->at, &l);
+    return blank_line(&b->files[from->file], &l, 1);
 }
 
 static void clear(diagnosis *d, unsigned number, const rules_file *file)
@@ -337,29 +372,40 @@ static void clear(diagnosis *d, unsigned number, const rules_file *file)
     d->text = TEXTS;
 }
 
-int diagnose(const bundle *b, verdict v, size_t most, shower show, void *with)
+/* Shows one fault, and tells where it is. */
+static void one_fault(const bundle *b, verdict v, scene *s, shower show, void *with)
 {
-    bundle left; /* what is left to be judged */
     diagnosis d;
+
+    set_scene(b, v, s);
+    clear(&d, v.number, &b->files[v.file]);
+    if (v.place != 0)
+        diagnose_line(b, v, s, &d);
+    else
+        snprintf(d.said, sizeof d.said, "%s", xkbrules_message(v.number));
+    d.unread = d.unread || v.number == XKBRULES_LONG_FILE;
+    set_chain(s, &d);
+    show(&d, with);
+}
+
+void diagnose_first(const bundle *b, verdict v, shower show, void *with)
+{
+    scene s;
+
+    one_fault(b, v, &s, show, with);
+}
+
+int diagnose(bundle *b, verdict v, size_t most, shower show, void *with)
+{
     scene s;
     size_t shown = 0;
-    int changed = copy_files(b, &left);
 
-    for (; changed && v.number != 0 && shown < most; shown++) {
-        clear(&d, v.number, &b->files[v.file]);
-        if (v.place == 0) {
-            snprintf(d.said, sizeof d.said, "%s", xkbrules_message(v.number));
-            show(&d, with);
-            break;
-        }
-        set_scene(&left.files[v.file], v.place, &s);
-        diagnose_line(&left, v, &s, &d);
-        show(&d, with);
-        changed = blank(&left.files[v.file], &s);
-        v = ask(&left);
+    for (int changed = 1; changed && v.number != 0 && shown < most; shown++) {
+        one_fault(b, v, &s, show, with);
+        changed = blank(b, v.number, &s);
+        v = ask_on(b, NULL);
     }
-    free_files(&left);
-    return v.number != 0 && v.place != 0;
+    return v.number != 0;
 }
 
 /* -- A profile -- */
@@ -368,8 +414,6 @@ int diagnose(const bundle *b, verdict v, size_t most, shower show, void *with)
    halving, and where the texts behind it are the only ones at fault, nothing else is asked. */
 void diagnose_profile(const profile *p, verdict v, diagnosis *d)
 {
-    rules_file none = {"", NULL, 0};
-    bundle b = {&none, 1};
     profile cut = *p;
     size_t good = 0, bad;
 
@@ -381,7 +425,7 @@ void diagnose_profile(const profile *p, verdict v, diagnosis *d)
     while (bad - good > 1) {
         verdict w;
         cut.len[d->text] = good + (bad - good) / 2;
-        w = ask_profile(&b, &cut);
+        w = ask_text(&cut);
         if (w.number == v.number && w.place == v.place)
             bad = cut.len[d->text];
         else

@@ -4,7 +4,7 @@
 
 #include "tool.h"
 
-enum { MOST_QUOTED = 60 };
+enum { MOST_QUOTED = 60, MOST_NAMED = 300 };
 
 /* -- Saying -- */
 
@@ -18,17 +18,23 @@ static void say(diagnosis *d, const char *format, ...)
     va_end(arguments);
 }
 
-/* A word in quotes, as safe as put_safe would show it, and cut. */
+/* Bytes in quotes, as safe as put_safe would show them, and cut. */
+static void say_quoted(diagnosis *d, const uint8_t *s, size_t n, size_t most)
+{
+    say(d, "'");
+    for (size_t i = 0; i < n && i < most; i++)
+        say(d, s[i] >= 0x20 && s[i] <= 0x7E ? "%c" : "\\x%02X", s[i]);
+    say(d, n > most ? "...'" : "'");
+}
+
 static void say_word(diagnosis *d, const uint8_t *bytes, span word)
 {
-    size_t n = word.to - word.from;
+    say_quoted(d, bytes + word.from, word.to - word.from, MOST_QUOTED);
+}
 
-    say(d, "'");
-    for (size_t i = 0; i < n && i < MOST_QUOTED; i++) {
-        uint8_t c = bytes[word.from + i];
-        say(d, c >= 0x20 && c <= 0x7E ? "%c" : "\\x%02X", c);
-    }
-    say(d, n > MOST_QUOTED ? "...'" : "'");
+static void say_name(diagnosis *d, const char *name)
+{
+    say_quoted(d, (const uint8_t *)name, strlen(name), MOST_NAMED);
 }
 
 static void say_words(diagnosis *d, size_t n)
@@ -424,39 +430,74 @@ static void bad_heading(const scene *s, diagnosis *d)
     }
 }
 
-static size_t group_count(const scene *s)
-{
-    size_t n = 0;
-    line l;
-
-    for (size_t at = 0; at < s->line.from; at = l.to) {
-        read_line(s->bytes, s->len, at, &l);
-        n += l.heading && l.count > 0 && begins_with(s->bytes, l.words[0], '$');
-    }
-    return n;
-}
-
 static void bad_group(const scene *s, diagnosis *d)
 {
-    span name = s->line.words[0];
-    line l;
+    const place *from, *before;
 
-    d->mark = name;
-    for (size_t at = 0; at < s->line.from; at = l.to) {
-        read_line(s->bytes, s->len, at, &l);
-        if (l.heading && l.count > 0 && l.words[0].to - l.words[0].from == name.to - name.from
-            && memcmp(s->bytes + l.words[0].from, s->bytes + name.from, name.to - name.from) == 0) {
-            say_word(d, s->bytes, name);
-            say(d, " is defined twice");
-            d->also = "first defined here";
-            d->also_line = line_number(s->bytes, at);
-            return;
-        }
+    d->mark = s->line.words[0];
+    if (s->reading.again) {
+        say_word(d, s->bytes, d->mark);
+        say(d, " is defined twice");
+        if (is_read_again(s->b, &s->reading, s->fault, &from, &before))
+            say(d, before != NULL ? ": its file is included a second time" : ": its file is included from within itself");
+    } else if (s->reading.groups == XKBRULES_MOST_GROUPS) {
+        say_word(d, s->bytes, d->mark);
+        say(d, " is the %dth group; at most %d may be defined", XKBRULES_MOST_GROUPS + 1, XKBRULES_MOST_GROUPS);
     }
-    if (group_count(s) == XKBRULES_MOST_GROUPS) {
-        say_word(d, s->bytes, name);
-        say(d, " is the %dth group; a file may define %d", XKBRULES_MOST_GROUPS + 1, XKBRULES_MOST_GROUPS);
+}
+
+/* -- Include lines -- */
+
+/* The spot is directly behind the percent sign. */
+static void bad_path(const scene *s, diagnosis *d)
+{
+    span item = {d->at - 1, d->at + 1};
+
+    if (d->at == 0 || s->bytes[d->at - 1] != '%')
+        return;
+    if (item.to > d->mark.to) {
+        item.to = d->mark.to;
+        say(d, "'%%' with nothing behind it: %%, H, E or S has to follow");
+    } else {
+        say_word(d, s->bytes, item);
+        say(d, " is no item of a path: after '%%' stands %%, H, E or S");
     }
+    d->mark = item;
+}
+
+static void no_file(const scene *s, diagnosis *d)
+{
+    if (s->b->missing != NULL) {
+        say_name(d, s->b->missing);
+        say(d, " can't be read: ");
+    }
+    say(d, "%s", s->b->why);
+    if (begins_with(s->bytes, d->mark, '"'))
+        say(d, "; a path stands without quotes");
+}
+
+/* The files from the one that was given to the one that is not read any more, by their names. */
+static void too_deep(const scene *s, diagnosis *d)
+{
+    const char *names[XKBRULES_MOST_DEPTH + 2];
+    size_t n = 0, included = included_file(s->b, s->bytes, &s->line);
+
+    for (size_t i = 0; i < s->reading.here.depth; i++)
+        names[n++] = s->b->files[s->reading.here.from[i].file].name;
+    names[n++] = s->b->files[s->fault.file].name;
+    if (included < s->b->count)
+        names[n++] = s->b->files[included].name;
+    for (size_t i = 0; i < n; i++)
+        for (size_t j = i + 1; j < n; j++)
+            if (strcmp(names[i], names[j]) == 0) {
+                say(d, "a loop: ");
+                say_name(d, names[i]);
+                say(d, " is included from within itself");
+                return;
+            }
+    say(d, "too deep: this is the fifth file below ");
+    say_name(d, s->b->files[0].name);
+    say(d, ", and can include no other");
 }
 
 /* -- Rules -- */
@@ -510,6 +551,8 @@ static void lone_rule(const scene *s, diagnosis *d)
         return;
     if (s->kind == NO_HEADING) {
         say(d, "a rule before any heading");
+        if (s->reading.here.depth != 0)
+            say(d, " of this file: it needs its own");
     } else if (s->kind == INCLUDE_LINE) {
         say(d, "a rule after an include line: it needs a new heading");
     } else if (s->line.equals == 0) {
@@ -678,7 +721,8 @@ static void also(const scene *s, diagnosis *d)
     if (s->line.heading || s->kind == NO_HEADING)
         return;
     d->also = names[s->kind];
-    d->also_line = line_number(s->bytes, s->heading.from);
+    d->also_line.file = d->file;
+    d->also_line.line = line_number(s->bytes, s->heading.from);
 }
 
 void reason_line(const scene *s, diagnosis *d)
@@ -700,6 +744,12 @@ void reason_line(const scene *s, diagnosis *d)
         bad_percent(s, d);
     else if (d->number == XKBRULES_BAD_GROUP && s->line.count > 0)
         bad_group(s, d);
+    else if (d->number == XKBRULES_BAD_PATH)
+        bad_path(s, d);
+    else if (d->number == XKBRULES_NO_FILE)
+        no_file(s, d);
+    else if (d->number == XKBRULES_TOO_DEEP)
+        too_deep(s, d);
     if (d->said[0] == '\0')
         say(d, "%s", xkbrules_message(d->number));
 }

@@ -72,9 +72,14 @@ static void put_below(const uint8_t *s, size_t from, size_t to, size_t at, span 
     putc('\n', stderr);
 }
 
-static void put_place(const rules_file *file, size_t number)
+static void put_name(const rules_file *file)
 {
     put_safe(stderr, (const uint8_t *)file->name, strlen(file->name), 0);
+}
+
+static void put_place(const rules_file *file, size_t number)
+{
+    put_name(file);
     fprintf(stderr, ":%lu", (unsigned long)number);
 }
 
@@ -95,25 +100,39 @@ static void show_line(const diagnosis *d)
     if (d->also == NULL)
         return;
     fprintf(stderr, "    %s: ", d->also);
-    put_place(d->also_file, d->also_line);
+    put_place(d->also_line.file, d->also_line.line);
     putc('\n', stderr);
-    put_line(d->also_file, d->also_line, (size_t)-1, none);
+    put_line(d->also_line.file, d->also_line.line, (size_t)-1, none);
 }
 
-void show_diagnosis(const diagnosis *d, const profile *p)
+static void show_chain(const diagnosis *d)
 {
-    if (d->file != NULL && d->line != 0) {
-        show_line(d);
-        return;
+    for (size_t i = 0; i < d->depth; i++) {
+        fputs("    included from ", stderr);
+        put_place(d->chain[i].file, d->chain[i].line);
+        putc('\n', stderr);
     }
+}
+
+static void show_whole(const diagnosis *d, const profile *p)
+{
     fputs("xkbrules: ", stderr);
     if (d->text != TEXTS)
         fprintf(stderr, "%s (%s)", text_names[d->text], text_options[d->text]);
     else
-        put_safe(stderr, (const uint8_t *)d->file->name, strlen(d->file->name), 0);
+        put_name(d->file);
     fprintf(stderr, ": refused %u: %s\n", d->number, d->said);
     if (d->text != TEXTS)
         put_below(p->in[d->text], 0, p->len[d->text], d->at, d->mark, 0);
+}
+
+void show_diagnosis(const diagnosis *d, const profile *p)
+{
+    if (d->file != NULL && d->line != 0)
+        show_line(d);
+    else
+        show_whole(d, p);
+    show_chain(d);
 }
 
 /* -- JSON -- */
@@ -169,6 +188,18 @@ static void json_file(FILE *to, const rules_file *file)
         fputs("null", to);
 }
 
+static void json_chain(FILE *to, const diagnosis *d)
+{
+    fputs(",\"chain\":[", to);
+    for (size_t i = 0; i < d->depth; i++) {
+        if (i > 0)
+            putc(',', to);
+        json_file(to, d->chain[i].file);
+        fprintf(to, ",\"line\":%lu}", (unsigned long)d->chain[i].line);
+    }
+    putc(']', to);
+}
+
 void json_diagnosis(FILE *to, const diagnosis *d)
 {
     json_file(to, d->file);
@@ -178,8 +209,10 @@ void json_diagnosis(FILE *to, const diagnosis *d)
         fprintf(to, ",\"option\":\"%s\"", text_options[d->text]);
     if (d->also != NULL) {
         fputs(",\"also\":", to);
-        json_file(to, d->also_file);
-        fprintf(to, ",\"line\":%lu,\"text\":\"%s\"}", (unsigned long)d->also_line, d->also);
+        json_file(to, d->also_line.file);
+        fprintf(to, ",\"line\":%lu,\"text\":\"%s\"}", (unsigned long)d->also_line.line, d->also);
     }
+    if (d->depth != 0)
+        json_chain(to, d);
     putc('}', to);
 }

@@ -1,7 +1,9 @@
 /* What the parts of the command share.
 
    ask.c       every call of the library
+   files.c     the file that was given, and those that the library asks for
    line.c      a line as its words, for showing it
+   reading.c   by which include lines a line is read
    diagnose.c  the spot of a fault, and all faults of a file
    reason.c    what is said of a fault
    show.c      what is printed of it, for a terminal or as JSON
@@ -30,15 +32,26 @@ typedef struct {
 } profile;
 
 typedef struct {
-    const char *name; /* as it is shown */
-    uint8_t *bytes;
+    char *name;       /* as it is opened and shown */
+    uint8_t *path;    /* as include lines have it, written out; empty for the file that was given */
+    size_t path_len;
+    uint8_t *bytes;   /* as it was read */
     size_t len;
+    uint8_t *left;    /* what the library is asked about: bad lines are blanked there as they are shown */
+    size_t left_len;
 } rules_file;
 
-/* What the library is asked about: the file to resolve, and behind it those that it may name. */
+/* What %H, %E and %S stand for, in the library's order. */
+enum { HOME, EXTRA, SYSTEM, PATHS };
+
+/* What the library is asked about: the file that was given, and behind it those that it asked for. */
 typedef struct {
     rules_file *files;
     size_t count;
+    const char *paths[PATHS];
+    char *missing;    /* the last file that it asked for and that could not be had, or NULL */
+    const char *why;
+    int unread;       /* that file may be there all the same */
 } bundle;
 
 /* An answer: number 0, or a refusal with its line or text, and the file that the line is in, counted from 0. */
@@ -49,14 +62,41 @@ typedef struct {
 
 extern uint8_t strings[XKBRULES_MOST_ROOM], sheet[XKBRULES_SHEET];
 
-/* Whether a file is good, for any profile. */
+/* Whether a bundle is good, for any profile. */
 verdict ask(const bundle *b);
 
 /* The same with a profile; accepted, its strings are in `strings` and `sheet`. */
 verdict ask_profile(const bundle *b, const profile *p);
 
+/* The same of a file alone, with the paths of a bundle, and of a profile alone. */
+verdict ask_alone(const bundle *b, uint8_t *bytes, size_t len);
+verdict ask_text(const profile *p);
+
+/* The name of the file that the library misses in a bundle which is refused for that; NULL where it is too long. */
+const uint8_t *ask_missing(const bundle *b, size_t *len);
+
+/* The path of an include line, written out; NULL where the library takes it for none. */
+const uint8_t *ask_path(const bundle *b, const uint8_t *word, size_t n, size_t *len);
+
 /* Whether CR LF is a line end to the library. */
 int ask_cr(void);
+
+/* -- files.c -- */
+
+/* Memory as realloc has it; where there is none the command ends. */
+void *claim(void *old, size_t size);
+
+/* At most n bytes of a file, or of standard input where that is `-`. 0, or what errno says. */
+int read_bytes(const char *name, uint8_t *into, size_t n, size_t *len);
+
+/* A bundle of the file that was given alone; 0, or what errno says. */
+int open_bundle(bundle *b, const char *name, const char *const paths[PATHS]);
+void close_bundle(bundle *b);
+
+/* As ask, or ask_profile where there is a profile, with every file that the library asks for if it can be had. */
+verdict ask_on(bundle *b, const profile *p);
+
+const char *shown_name(const char *name);
 
 /* -- line.c -- */
 
@@ -100,9 +140,46 @@ typedef enum { NO_HEADING, SET_HEADING, GROUP_LINE, INCLUDE_LINE } heading_kind;
 
 heading_kind heading_above(const uint8_t *bytes, size_t len, size_t from, line *heading);
 
+/* -- reading.c -- */
+
+/* A line of a bundle, by its file, counted from 0, and where it begins there. */
+typedef struct {
+    size_t file, at;
+} place;
+
+/* The include lines by which a file is read, that of the file that was given first. */
+typedef struct {
+    size_t depth;
+    place from[XKBRULES_MOST_DEPTH];
+} way;
+
+/* How the library comes to a fault. */
+typedef struct {
+    int known;
+    way here;
+    size_t groups;  /* that were defined before; for 10 */
+    int again;      /* the fault's group was among them */
+    place defined;  /* where */
+    way first;      /* and by which include lines that was read */
+} reading;
+
+void find_reading(const bundle *b, unsigned number, place fault, reading *r);
+
+/* Whether a group is defined again since its file is read again; *from is the include line for that, and *before, where
+   there is one, that for the first time. */
+int is_read_again(const bundle *b, const reading *r, place fault, const place **from, const place **before);
+
+/* The file that an include line names, by its number from 0; b->count where it is none of the bundle. */
+size_t included_file(const bundle *b, const uint8_t *bytes, const line *l);
+
 /* -- diagnose.c -- */
 
-enum { MOST_SAID = 1024 };
+enum { MOST_SAID = 2048 };
+
+typedef struct {
+    const rules_file *file;
+    size_t line;
+} shown_line;
 
 typedef struct {
     unsigned number;
@@ -113,14 +190,19 @@ typedef struct {
     int text;               /* MODEL to OPTIONS, or TEXTS */
     char said[MOST_SAID];
     const char *also;       /* what another line that is shown is, or NULL */
-    const rules_file *also_file;
-    size_t also_line;
+    shown_line also_line;
+    size_t depth;           /* the include lines by which the file is read, that of the nearest file first */
+    shown_line chain[XKBRULES_MOST_DEPTH];
+    int unread;             /* a file could not be looked at */
 } diagnosis;
 
 typedef void (*shower)(const diagnosis *d, void *with);
 
 /* Shows the faults of a bundle that the library refuses with `first`, at most `most` of them; 1 if there are more. */
-int diagnose(const bundle *b, verdict first, size_t most, shower show, void *with);
+int diagnose(bundle *b, verdict first, size_t most, shower show, void *with);
+
+/* Shows the first alone, and asks for no more files. */
+void diagnose_first(const bundle *b, verdict first, shower show, void *with);
 
 /* The fault of a profile that is refused at a text. */
 void diagnose_profile(const profile *p, verdict v, diagnosis *d);
@@ -129,7 +211,10 @@ void diagnose_profile(const profile *p, verdict v, diagnosis *d);
 
 /* What is known of a refused line when words are chosen for it. */
 typedef struct {
-    const uint8_t *bytes;
+    const bundle *b;
+    place fault;
+    reading reading;
+    const uint8_t *bytes; /* what is left of its file */
     size_t len;
     line line;
     size_t first; /* the number of its first physical line */

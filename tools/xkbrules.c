@@ -1,5 +1,6 @@
 /* xkbrules: a command for people who write rules files. `check` shows the bad lines of files, `resolve` what a
-   profile becomes under a file; `card` writes that as a desk's card, and `show-card` shows what a card holds.
+   profile becomes under a file; `card` writes that as a desk's card, and `show-card` shows what a card holds. Include
+   lines are followed.
 
    Every refusal, with its number and place, and every string comes from libxkbrules.a; nothing here decides about
    a rule, a profile or a card. tool.h tells the parts. */
@@ -13,11 +14,12 @@
 enum { USUAL_LIMIT = 20 }; /* faults that are shown of a file */
 
 static const char letters[TEXTS] = {'m', 'l', 'v', 'o'};
+static const char *const path_options[PATHS] = {"home", "extra", "system"};
 
 static const char help[] =
-    "usage: xkbrules check [--all | --limit N] [--json] FILE...\n"
-    "       xkbrules resolve FILE [-m MODEL] [-l LAYOUTS] [-v VARIANTS] [-o OPTIONS] [--keymap | --json]\n"
-    "       xkbrules card FILE [-m MODEL] [-l LAYOUTS] [-v VARIANTS] [-o OPTIONS] > CARD\n"
+    "usage: xkbrules check [--all | --limit N] [--json] [PATHS] FILE...\n"
+    "       xkbrules resolve FILE [-m MODEL] [-l LAYOUTS] [-v VARIANTS] [-o OPTIONS] [--keymap | --json] [PATHS]\n"
+    "       xkbrules card FILE [-m MODEL] [-l LAYOUTS] [-v VARIANTS] [-o OPTIONS] [PATHS] > CARD\n"
     "       xkbrules show-card CARD\n"
     "\n"
     "check      shows the bad lines of XKB rules files, where in the line, and why they are refused\n"
@@ -25,7 +27,8 @@ static const char help[] =
     "card       writes the profile and its strings as a card, for a desk to read\n"
     "show-card  prints the profile and the strings of a card\n"
     "\n"
-    "FILE is a rules file and CARD a card, or - for standard input.\n"
+    "FILE is a rules file and CARD a card, or - for standard input. Files that FILE includes are read too;\n"
+    "a relative path is looked for beside FILE. PATHS are what stands for %H, %E and %S in include paths.\n"
     "\n"
     "  -m, --model MODEL       one model\n"
     "  -l, --layout LAYOUTS    one to four layouts with commas between\n"
@@ -35,6 +38,9 @@ static const char help[] =
     "      --json              print the bad lines, or the strings, as JSON on standard output\n"
     "      --limit N           show at most N bad lines of a file; 20 if not given\n"
     "      --all               show all of them\n"
+    "      --home FOLDER       what %H stands for; $HOME if not given\n"
+    "      --extra FOLDER      what %E stands for; /etc/xkb/rules if not given\n"
+    "      --system FOLDER     what %S stands for; /usr/share/X11/xkb/rules if not given\n"
     "  -h, --help              print this\n"
     "  -V, --version           print the version\n"
     "\n"
@@ -43,6 +49,7 @@ static const char help[] =
     "Examples:\n"
     "  xkbrules check house.rules\n"
     "  xkbrules check --json --all rules/* > faults.json\n"
+    "  xkbrules check --system staging/rules house.rules\n"
     "  xkbrules resolve house.rules -m pc105 -l us,fr -v ,bepo -o ctrl:nocaps,compose:menu\n"
     "  xkbrules resolve /usr/share/X11/xkb/rules/evdev -m pc105 -l de --keymap | xkbcomp -xkm - de.xkm\n"
     "  xkbrules card house.rules -m pc105 -l us,fr > desk.card\n"
@@ -56,12 +63,12 @@ typedef struct {
     const char *show; /* help or version, and nothing else is done */
     const char *texts[TEXTS];
     char *options; /* those of every -o; texts[OPTIONS] points to it */
+    const char *paths[PATHS];
     size_t limit;  /* 0 if not given */
     int all, keymap, json;
 } request;
 
-static uint8_t rules[XKBRULES_MOST_FILE + 1]; /* one more than may be, so that the library sees a longer file as such */
-static uint8_t card[XKBRULES_MOST_CARD + 1];  /* one more than may be, so that the library sees what stands behind a card */
+static uint8_t card[XKBRULES_MOST_CARD + 1]; /* one more than may be, so that the library sees what stands behind a card */
 static size_t card_len;
 static char keymap[XKBRULES_MOST_KEYMAP];
 
@@ -70,11 +77,6 @@ static char keymap[XKBRULES_MOST_KEYMAP];
 static void put_word(const char *s)
 {
     put_safe(stderr, (const uint8_t *)s, strlen(s), 0);
-}
-
-static const char *name_of(const char *file)
-{
-    return strcmp(file, "-") == 0 ? "<stdin>" : file;
 }
 
 /* A message that begins with the program's name; about may be NULL. */
@@ -126,8 +128,8 @@ static void show_fault(const diagnosis *d, void *with)
         show_diagnosis(d, r->p);
     }
     r->shown++;
-    if (d->number == XKBRULES_LONG_FILE)
-        r->status = FAILED; /* the file was not looked at */
+    if (d->unread)
+        r->status = FAILED;
     else if (r->status == GOOD)
         r->status = REFUSED;
 }
@@ -140,55 +142,33 @@ static void show_text_fault(const profile *p, verdict v, report *r)
     show_fault(&d, r);
 }
 
-/* -- Files -- */
-
-/* At most n bytes of a file, or of standard input. */
-static int read_file(const char *file, uint8_t *into, size_t n, size_t *len)
-{
-    FILE *from = strcmp(file, "-") == 0 ? stdin : fopen(file, "rb");
-    int error = 0;
-
-    if (from == NULL)
-        return failed(file, strerror(errno));
-    *len = fread(into, 1, n, from);
-    if (ferror(from))
-        error = errno;
-    if (from != stdin)
-        fclose(from);
-    return error == 0 ? GOOD : failed(name_of(file), strerror(error));
-}
-
-static int read_rules(const char *name, rules_file *file)
-{
-    file->name = name_of(name);
-    file->bytes = rules;
-    return read_file(name, rules, sizeof rules, &file->len);
-}
-
 /* -- check -- */
 
-static void check_file(const char *name, report *r)
+static void check_bundle(bundle *b, report *r)
 {
     const request *asked = r->asked;
-    rules_file file;
-    bundle b = {&file, 1};
     size_t most = asked->all ? (size_t)-1 : asked->limit != 0 ? asked->limit : USUAL_LIMIT;
-    verdict v;
+    verdict v = ask_on(b, NULL);
 
-    if (read_rules(name, &file) != GOOD) {
-        r->status = FAILED;
-        return;
-    }
-    v = ask(&b);
-    if (v.number == XKBRULES_ACCEPTED)
-        return;
-    if (!diagnose(&b, v, most, show_fault, r))
+    if (v.number == XKBRULES_ACCEPTED || !diagnose(b, v, most, show_fault, r))
         return;
     r->more = 1;
     if (!asked->json) {
-        put_word(file.name);
+        put_word(b->files[0].name);
         fputs(": more lines are bad; --all shows them\n", stderr);
     }
+}
+
+static void check_file(const char *name, report *r)
+{
+    bundle b;
+    int error = open_bundle(&b, name, r->asked->paths);
+
+    if (error != 0)
+        r->status = failed(shown_name(name), strerror(error));
+    else
+        check_bundle(&b, r);
+    close_bundle(&b);
 }
 
 static int check(const request *asked)
@@ -260,7 +240,7 @@ static int write_card(const char *file, const profile *p)
 
     if (xkbrules_number(answer) != XKBRULES_ACCEPTED) {
         fputs("xkbrules: ", stderr);
-        put_word(name_of(file));
+        put_word(shown_name(file));
         fprintf(stderr, ": refused %u: text over 65,535 bytes, which no card holds\n", xkbrules_number(answer));
         return REFUSED;
     }
@@ -295,7 +275,7 @@ static int refuse(const bundle *b, const profile *p, verdict v, const request *a
     if (v.number == XKBRULES_BAD_TEXT || v.number == XKBRULES_TOO_MANY)
         show_text_fault(p, v, &r);
     else
-        diagnose(b, v, 1, show_fault, &r);
+        diagnose_first(b, v, show_fault, &r);
     if (asked->json)
         fputs("\n]}\n", stdout);
     return printed(r.status);
@@ -304,14 +284,17 @@ static int refuse(const bundle *b, const profile *p, verdict v, const request *a
 static int resolve(const request *asked)
 {
     profile p = profile_of(asked);
-    rules_file file;
-    bundle b = {&file, 1};
-    verdict v;
+    bundle b;
+    int error = open_bundle(&b, asked->files[0], asked->paths), status;
 
-    if (read_rules(asked->files[0], &file) != GOOD)
-        return FAILED;
-    v = ask_profile(&b, &p);
-    return v.number == XKBRULES_ACCEPTED ? print_answer(asked, &p) : refuse(&b, &p, v, asked);
+    if (error != 0) {
+        status = failed(shown_name(asked->files[0]), strerror(error));
+    } else {
+        verdict v = ask_on(&b, &p);
+        status = v.number == XKBRULES_ACCEPTED ? print_answer(asked, &p) : refuse(&b, &p, v, asked);
+    }
+    close_bundle(&b);
+    return status;
 }
 
 /* -- show-card -- */
@@ -327,7 +310,7 @@ static void print_shown(const char *name, const uint8_t *s, size_t len)
 static int refuse_card(const request *asked, unsigned number)
 {
     fputs("xkbrules: ", stderr);
-    put_word(name_of(asked->files[0]));
+    put_word(shown_name(asked->files[0]));
     fprintf(stderr, ": refused %u: %s\n", number, xkbrules_message(number));
     return REFUSED;
 }
@@ -337,9 +320,10 @@ static int show_card(const request *asked)
     uint8_t lengths[XKBRULES_CARD_SHEET];
     const uint8_t *at = strings;
     uint64_t answer;
+    int error = read_bytes(asked->files[0], card, sizeof card, &card_len);
 
-    if (read_file(asked->files[0], card, sizeof card, &card_len) != GOOD)
-        return FAILED;
+    if (error != 0)
+        return failed(shown_name(asked->files[0]), strerror(error));
     answer = xkbrules_card_read(card, card_len, strings, sizeof strings, lengths, sizeof lengths);
     if (xkbrules_number(answer) != XKBRULES_ACCEPTED)
         return refuse_card(asked, xkbrules_number(answer));
@@ -412,6 +396,24 @@ static int take_text(request *asked, int i, const char *arg, const char *value)
     return GOOD;
 }
 
+/* The path text that an argument is an option for, or PATHS. */
+static int path_of(const char *arg, const char **value)
+{
+    int i = 0;
+
+    while (i < PATHS && !is_long(arg, path_options[i], value))
+        i++;
+    return i;
+}
+
+static int take_path(request *asked, int i, const char *arg, const char *value)
+{
+    if (asked->paths[i] != NULL)
+        return misused(arg, "given twice");
+    asked->paths[i] = value;
+    return GOOD;
+}
+
 static int take_limit(request *asked, const char *arg, const char *value)
 {
     size_t n = 0;
@@ -462,21 +464,24 @@ static int take_flag(request *asked, const char *arg)
 static int take(request *asked, char **argv, int *at)
 {
     const char *arg = argv[(*at)++], *value;
-    int i, limit;
+    int limit, path, text;
 
     if (arg[0] != '-' || arg[1] == '\0')
         return take_operand(asked, arg);
     if (take_flag(asked, arg))
         return GOOD;
     limit = is_long(arg, "limit", &value);
-    i = limit ? TEXTS : text_of(arg, &value);
-    if (i == TEXTS && !limit)
+    path = limit ? PATHS : path_of(arg, &value);
+    text = limit || path != PATHS ? TEXTS : text_of(arg, &value);
+    if (!limit && path == PATHS && text == TEXTS)
         return misused(arg, "not an option");
     if (value == NULL && argv[*at] != NULL)
         value = argv[(*at)++];
     if (value == NULL)
         return misused(arg, "a value has to follow");
-    return limit ? take_limit(asked, arg, value) : take_text(asked, i, arg, value);
+    if (limit)
+        return take_limit(asked, arg, value);
+    return path != PATHS ? take_path(asked, path, arg, value) : take_text(asked, text, arg, value);
 }
 
 static int take_all(request *asked, char **argv)
@@ -501,6 +506,9 @@ static int fits(const request *asked)
         given = given || asked->texts[i] != NULL;
     if (given && (checks || is_command(asked, "show-card")))
         return misused(asked->command, "takes no profile and no --keymap; resolve does");
+    for (int i = 0; i < PATHS; i++)
+        if (asked->paths[i] != NULL && is_command(asked, "show-card"))
+            return misused(asked->command, "takes no --home, --extra and --system; check, resolve and card do");
     if (asked->keymap && !resolves)
         return misused(asked->command, "takes no --keymap; resolve does");
     if (asked->json && !checks && !resolves)
@@ -512,6 +520,15 @@ static int fits(const request *asked)
     if (asked->keymap && asked->json)
         return misused("--keymap", "given beside --json");
     return GOOD;
+}
+
+static void set_paths(request *asked)
+{
+    const char *usual[PATHS] = {getenv("HOME"), "/etc/xkb/rules", "/usr/share/X11/xkb/rules"};
+
+    for (int i = 0; i < PATHS; i++)
+        if (asked->paths[i] == NULL)
+            asked->paths[i] = usual[i] == NULL ? "" : usual[i];
 }
 
 /* What take_all can't see before the end; missing texts become empty ones. */
@@ -533,6 +550,7 @@ static int complete(request *asked)
     for (int i = 0; i < TEXTS; i++)
         if (asked->texts[i] == NULL)
             asked->texts[i] = "";
+    set_paths(asked);
     return GOOD;
 }
 

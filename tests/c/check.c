@@ -6,7 +6,10 @@
 
 #include "xkbrules.h"
 
-enum { RULES, MODEL, LAYOUTS, VARIANTS, OPTIONS, INPUTS };
+enum { BUNDLE, HOME, EXTRA, SYSTEM, MODEL, LAYOUTS, VARIANTS, OPTIONS, INPUTS };
+
+/* The place of a line of the first file. */
+#define AT(line) ((UINT64_C(1) << 32) + (line))
 
 typedef struct {
     const uint8_t *bytes;
@@ -42,10 +45,14 @@ static slice of(const char *s)
     return r;
 }
 
+/* A question about one file without a name. One is asked at a time, so all share one bundle. */
 static question ask(const char *rules, const char *model, const char *layouts, const char *variants, const char *options)
 {
+    static uint8_t bundle[XKBRULES_LONE_BUNDLE];
     question q;
-    q.in[RULES] = of(rules);
+    q.in[BUNDLE].bytes = bundle;
+    q.in[BUNDLE].len = xkbrules_pack((const uint8_t *)rules, strlen(rules), bundle, sizeof bundle);
+    q.in[HOME] = q.in[EXTRA] = q.in[SYSTEM] = of("");
     q.in[MODEL] = of(model);
     q.in[LAYOUTS] = of(layouts);
     q.in[VARIANTS] = of(variants);
@@ -114,7 +121,8 @@ static reply resolve(question q, size_t texts_len, size_t sheet_len, const char 
     r.texts_len = texts_len;
     r.sheet = patterned(sheet_len);
     r.sheet_len = sheet_len;
-    r.answer = xkbrules_resolve(in[RULES], q.in[RULES].len, in[MODEL], q.in[MODEL].len, in[LAYOUTS], q.in[LAYOUTS].len,
+    r.answer = xkbrules_resolve(in[BUNDLE], q.in[BUNDLE].len, in[HOME], q.in[HOME].len, in[EXTRA], q.in[EXTRA].len, in[SYSTEM], q.in[SYSTEM].len,
+                                in[MODEL], q.in[MODEL].len, in[LAYOUTS], q.in[LAYOUTS].len,
                                 in[VARIANTS], q.in[VARIANTS].len, in[OPTIONS], q.in[OPTIONS].len,
                                 r.texts, texts_len, r.sheet, sheet_len);
     for (int i = 0; i < INPUTS; i++) {
@@ -257,17 +265,18 @@ static void refusals(void)
     refused(ask("", "m", "us", "", "a b"), XKBRULES_BAD_TEXT, 4, "a blank in the options");
     refused(ask("", "m", "a,b,c,d,e", "", ""), XKBRULES_TOO_MANY, 2, "five layouts");
     refused(ask("", "m", "us", ",", ""), XKBRULES_TOO_MANY, 3, "two variants");
-    refused(ask(file, "m", "us", "", ""), XKBRULES_LONG_FILE, 0, "a long file");
+    refused(ask(file, "m", "us", "", ""), XKBRULES_LONG_FILE, AT(0), "a long file");
     accepted(ask(fit, "m", "us", "", ""), none, "a file of 65,536 bytes");
-    refused(ask("\n\n\001\n", "m", "us", "", ""), XKBRULES_BAD_BYTE, 3, "a bad byte");
-    refused(ask("\\", "m", "us", "", ""), XKBRULES_BAD_BYTE, 1, "a backslash at the end of the file");
-    refused(ask(rule, "m", "us", "", ""), XKBRULES_LONG_WORD, 2, "a long word");
-    refused(ask("x", "m", "us", "", ""), XKBRULES_BAD_LINE, 1, "a rule before any heading");
-    refused(ask("! model = symbols\n* = a b", "m", "us", "", ""), XKBRULES_BAD_LINE, 2, "a rule with too many words");
-    refused(ask("! model = sounds\n", "m", "us", "", ""), XKBRULES_BAD_HEADING, 1, "an unknown component");
-    refused(ask("! model = symbols\n* = %", "m", "us", "", ""), XKBRULES_BAD_PERCENT, 2, "a percent sign at the end of the file");
-    refused(ask("! include x", "m", "us", "", ""), XKBRULES_INCLUDE, 1, "an include line");
-    refused(ask("! $a =\n! $a =\n", "m", "us", "", ""), XKBRULES_BAD_GROUP, 2, "a group defined twice");
+    refused(ask("\n\n\001\n", "m", "us", "", ""), XKBRULES_BAD_BYTE, AT(3), "a bad byte");
+    refused(ask("\\", "m", "us", "", ""), XKBRULES_BAD_BYTE, AT(1), "a backslash at the end of the file");
+    refused(ask(rule, "m", "us", "", ""), XKBRULES_LONG_WORD, AT(2), "a long word");
+    refused(ask("x", "m", "us", "", ""), XKBRULES_BAD_LINE, AT(1), "a rule before any heading");
+    refused(ask("! model = symbols\n* = a b", "m", "us", "", ""), XKBRULES_BAD_LINE, AT(2), "a rule with too many words");
+    refused(ask("! model = sounds\n", "m", "us", "", ""), XKBRULES_BAD_HEADING, AT(1), "an unknown component");
+    refused(ask("! model = symbols\n* = %", "m", "us", "", ""), XKBRULES_BAD_PERCENT, AT(2), "a percent sign at the end of the file");
+    refused(ask("\n! include", "m", "us", "", ""), XKBRULES_BAD_LINE, AT(2), "an include line without a path");
+    refused(ask("! include x", "m", "us", "", ""), XKBRULES_NO_FILE, AT(1), "an include line");
+    refused(ask("! $a =\n! $a =\n", "m", "us", "", ""), XKBRULES_BAD_GROUP, AT(2), "a group defined twice");
     free(text);
     free(word);
     free(file);
@@ -286,7 +295,7 @@ static void little_endian(void)
     question q = ask(all, "m", "us", "", "");
     /* the second value is one byte over the longest word with its sign */
     reply r = resolve(q, 600, 40, "a word of 257 bytes with its sign");
-    check(xkbrules_number(r.answer) == XKBRULES_LONG_WORD && xkbrules_place(r.answer) == 4, "refused 5 at 4", "a word of 257 bytes with its sign");
+    check(xkbrules_number(r.answer) == XKBRULES_LONG_WORD && xkbrules_place(r.answer) == AT(4), "refused 5 at line 4", "a word of 257 bytes with its sign");
     drop(r);
     free(rules);
     free(all);
@@ -356,16 +365,24 @@ static void components(void)
 /* NULL and length 0. */
 static void nulls(void)
 {
-    uint8_t *sheet = patterned(40);
-    uint64_t answer = xkbrules_resolve(NULL, 0, NULL, 0, NULL, 0, NULL, 0, NULL, 0, NULL, 0, sheet, 40);
+    uint8_t *sheet = patterned(40), *bundle = block(8);
+    uint64_t answer;
+
+    check(xkbrules_pack(NULL, 0, bundle, 8) == 8, "eight bytes", "a bundle of an empty file");
+    answer = xkbrules_resolve(bundle, 8, NULL, 0, NULL, 0, NULL, 0, NULL, 0, NULL, 0, NULL, 0, NULL, 0, NULL, 0, sheet, 40);
 
     check(answer == 0, "accepted", "NULL everywhere");
     for (size_t i = 0; i < 40; i++)
         check(sheet[i] == 0, "zero lengths", "NULL everywhere");
     check(xkbrules_component(NULL, 0, sheet, 40, XKBRULES_SYMBOLS) == 0, "the empty string", "NULL for the texts");
     check(xkbrules_component(NULL, 0, NULL, 0, XKBRULES_SYMBOLS) == 0, "0", "NULL for both");
-    answer = xkbrules_resolve(NULL, 0, NULL, 0, NULL, 0, NULL, 0, NULL, 0, NULL, 0, NULL, 0);
+    answer = xkbrules_resolve(bundle, 8, NULL, 0, NULL, 0, NULL, 0, NULL, 0, NULL, 0, NULL, 0, NULL, 0, NULL, 0, NULL, 0);
     check(xkbrules_number(answer) == XKBRULES_NO_ROOM, "refused 11", "NULL for the sheet too");
+    answer = xkbrules_resolve(NULL, 0, NULL, 0, NULL, 0, NULL, 0, NULL, 0, NULL, 0, NULL, 0, NULL, 0, NULL, 0, NULL, 0);
+    check(answer == (uint64_t)XKBRULES_BROKEN_BUNDLE << 48, "refused 12", "NULL for the bundle too");
+    check(xkbrules_check(bundle, 8, NULL, 0, NULL, 0, NULL, 0, NULL, 0) == 0, "good", "NULL for a name");
+    check(xkbrules_check(NULL, 0, NULL, 0, NULL, 0, NULL, 0, NULL, 0) == (uint64_t)XKBRULES_BROKEN_BUNDLE << 48, "refused 12", "NULL for all of a check");
+    free(bundle);
     free(sheet);
 }
 

@@ -172,10 +172,11 @@ static void no_answer(void)
 static void resolved(void)
 {
     static const char rules[] = "! layout = symbols\n* = pc+%l%(v)\n! model = keycodes\n* = %m\n", layouts[] = "us\"};xkb_geometry{include\"x";
-    static uint8_t texts[XKBRULES_ROOM];
+    static uint8_t bundle[XKBRULES_LONE_BUNDLE], texts[XKBRULES_ROOM];
     static char keymap[XKBRULES_KEYMAP_ROOM];
     uint8_t sheet[XKBRULES_SHEET];
-    uint64_t answer = xkbrules_resolve((const uint8_t *)rules, sizeof rules - 1, (const uint8_t *)"\\\"7", 3, (const uint8_t *)layouts, sizeof layouts - 1,
+    size_t bundle_len = xkbrules_pack((const uint8_t *)rules, sizeof rules - 1, bundle, sizeof bundle);
+    uint64_t answer = xkbrules_resolve(bundle, bundle_len, NULL, 0, NULL, 0, NULL, 0, (const uint8_t *)"\\\"7", 3, (const uint8_t *)layouts, sizeof layouts - 1,
                                        NULL, 0, NULL, 0, texts, sizeof texts, sheet, sizeof sheet);
 
     check(answer == 0, "the profile is accepted");

@@ -55,7 +55,7 @@ static size_t line_behind(size_t at)
 static void edit(void)
 {
     static const char *const pieces[] = {"!", "$", "*", "=", " = ", " ", "\t", "\n", "\\", "\\\n", "\\ \n", "//", "/", "%", "%i", "%l[%i]", "%(v[", "[1]", "[any]", "[33]", "\r", "\r\n",
-        "\\\r\n", "! model = symbols\n", "! $g = a\n", "! layout[any] = symbols\n", "! include x\n", "# x\n", "\xC2\xA0", "\xEF\xBB\xBF", "\xE2\x80\x8B", "\xC3", "\x1B[31m", "\x7F", "\"", "x y z"};
+        "\\\r\n", "! model = symbols\n", "! $g = a\n", "! layout[any] = symbols\n", "! include x\n", "! include 1\n", "! include 2\n", "! include %S/%%\n", "%H", "# x\n", "\xC2\xA0", "\xEF\xBB\xBF", "\xE2\x80\x8B", "\xC3", "\x1B[31m", "\x7F", "\"", "x y z"};
     const char *piece = pieces[below(sizeof pieces / sizeof pieces[0])];
     size_t at = below(len + 1), from = line_before(at), to = line_behind(at);
     uint8_t byte = (uint8_t)below(256), copy[600];
