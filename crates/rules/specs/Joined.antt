@@ -1,5 +1,6 @@
--- The bundles of demand 3 whose first files are joined. Document 02, #101: "in 3 the three path texts are the same throughout and the bundles differ
--- only in their first file, which no include names, and it is these first files, as lent, that are joined, end with the newline and keep the size."
+-- The bundles of demand 3, whose first files are joined. Document 02, #101: "in 3 the three path texts are the same
+-- throughout and the bundles differ only in their first file, which no include names, and it is these first files, as
+-- lent, that are joined, end with the newline and keep the size."
 use Prim.Native.Nat.{ℕ, _+_, _≤_}
 use mathlib.Core.Path.{_≡_}
 use mathlib.Core.List.{List, _∷_, _++_}
@@ -28,7 +29,7 @@ namesFirst x (include w) = not (badPath w) && eqb (named x w) 1
 unfoldable pub avoids : Source → List Line → Bool
 avoids x ls = allOf (λ l. not (namesFirst x (entryOf l))) ls
 
--- "which no include names": no include line of the bundle names its first file
+-- "which no include names": no include line of a bundle names its first file
 unfoldable pub unnamed : Source → Bool
 unnamed x = allOf (λ f. avoids x (lines (f .bytes))) (filesOf (x .bundle))
 
@@ -38,30 +39,26 @@ pub record SamePaths (x y : Source) : Type 0 where
   pub extra : x .extra ≡ y .extra
   pub system : x .system ≡ y .system
 
--- the files of a bundle are this one, which no include names, and these others
-pub record Leads (x : Source) (f : File) (fs : List File) : Type 0 where
-  pub files : filesOf (x .bundle) ≡ f ∷ fs
-  pub free : unnamed x ≡ true
-
 -- The first file of c is that of a, then that of b.
 pub record FirstJoined (a b c : Source) : Type 0 where
   -- "the three path texts are the same throughout
   pub paths-a : SamePaths c a
   pub paths-b : SamePaths c b
-  -- and the bundles differ only in their first file, which no include names,
+  -- and the bundles differ only in their first file" ..
   pub first : File
   pub second : File
   pub both : File
   pub others : List File
-  pub leads-a : Leads a first others
-  pub leads-b : Leads b second others
-  pub leads-c : Leads c both others
-  -- and it is these first files, as lent, that are joined,
+  pub files-a : filesOf (a .bundle) ≡ first ∷ others
+  pub files-b : filesOf (b .bundle) ≡ second ∷ others
+  pub files-c : filesOf (c .bundle) ≡ both ∷ others
+  -- "and it is these first files, as lent, that are joined,
   pub bytes : both .bytes ≡ first .bytes ++ second .bytes
   -- end with the newline
   pub ended : closed (first .bytes) ≡ true
-  -- and keep the size"; the bundle that is lent with them is whole
+  -- and keep the size."
   pub size : length (both .bytes) ≤ longestFile
+  -- The bundle with the joined file is a bundle: 12 does not hold.
   pub lent : whole (c .bundle) ≡ true
 
 -- a line of the first file, k lines on; the lines of other files stay
