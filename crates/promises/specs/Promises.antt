@@ -8,15 +8,12 @@ use lib.ListN.{length, drop, getD, replicate}
 use Rattle.text.specs.declared.Refusal.{Refusal}
 use Rattle.text.specs.Limits.{longestTotal, mostGroups, mostLayouts, mostOptions}
 use Rattle.text.specs.Bytes.{Text, allOf, apart}
-use Rattle.text.specs.Lines.{lines}
-use Rattle.bundle.specs.Bundle.{File, filesOf}
 use Rattle.profile.specs.Profile.{Texts, profileOf, layoutCount, optionsOf}
 use Rattle.profile.specs.Options.{Alike, Within, withOptions}
 use Rattle.profile.proofs.Counts as counted
-use Rattle.rules.specs.Written.{Source, writtenOut}
+use Rattle.rules.specs.Written.{Source}
 use Rattle.rules.specs.Names.{definesOf, namesOf}
-use Rattle.rules.specs.Joined.{unnamed, FirstJoined, includesNothing, onLine}
-use Rattle.rules.proofs.Includes.{own-text}
+use Rattle.rules.specs.Joined.{unnamed, FirstJoined}
 use Rattle.answers.specs.Firings.{fileFirings}
 use Rattle.answers.specs.Components.{valuesOf, base, additions, updates}
 use Rattle.answers.specs.declared.Outcome.{Outcome}
@@ -129,11 +126,6 @@ component-code room s f t ts c h = entry.entry-component room s f t ts h c
 -- With any sheet, this fits 64 bits.
 pub component-fits : (room : ℕ) (s : Text) (c : ℕ) → componentCode room s c < 2 ^ 64
 component-fits = sheets.code-fits
-
--- A bundle of one file without include lines has just that file's lines as its text: it answers as the file did before
--- bundles, but for the places, which name the file.
-pub lone-file : (x : Source) (f : File) → filesOf (x .bundle) ≡ f ∷ [] → includesNothing (f .bytes) ≡ true → writtenOut x ≡ map onLine (lines (f .bytes))
-lone-file x f = own-text x f []
 
 -- Demand 3, joined files. "Demands 2 and 3 read over the text with includes written out; in 3 the three path texts are
 -- the same throughout and the bundles differ only in their first file, which no include names, and it is these first

@@ -4,7 +4,7 @@ use Prim.Native.Nat.{ℕ, zero, suc, _+_, _≤_}
 use native.Mathlib.Omega.{arith}
 use mathlib.Core.Path.{_≡_, refl, sym, ap, _∙_}
 use mathlib.Core.List.{List, [], _∷_, _++_, map, append-assoc}
-use mathlib.Core.Bool.{Bool, true, false, cond, not, _&&_}
+use mathlib.Core.Bool.{Bool, true, false, cond, not}
 use lib.ListN.{length}
 use lib.Dec.{eqb, ltb}
 use borrow.Author.Tests.{ne-eqb, eqb-true, eqb-false, not-true, not-false, le-ltb}
@@ -22,7 +22,7 @@ use Rattle.rules.specs.Entries.{Entry, ignored, wrong, group, set, rule,
 use Rattle.rules.specs.Sections.{Spot, placeOf, Placed}
 use Rattle.rules.specs.Written.{Source, Include, placed, lineOut, outLines, between, named, included, deepest, writtenOut}
 use Rattle.rules.specs.Faults.{bundleRefusals}
-use Rattle.rules.specs.Joined.{namesFirst, avoids, unnamed, SamePaths, FirstJoined, firstOn, isInclude, includesNothing, onLine}
+use Rattle.rules.specs.Joined.{namesFirst, avoids, unnamed, SamePaths, FirstJoined, firstOn}
 use Rattle.rules.proofs.Shifted.{Move, movedLine}
 
 out-append : (inc : Include) (k : ℕ) (a b : List Line) → outLines inc k (a ++ b) ≡ outLines inc k a ++ outLines inc k b
@@ -368,28 +368,3 @@ module _ (a b c : Source) (o : FirstJoined a b c) where
       let z : longFrom 2 (o .others) ≡ 0 = others-short (o .first) (o .others) (rw (o .files-a) at (none-long (a .bundle) h)) in
       let k : firstLong (filesOf (c .bundle)) ≡ 0 = rw (o .files-c) (first-short (o .both) (o .others) (o .size) z) in
       rw (o .lent, k)
-
--- a first file without include lines
-
-plain-line : (inc : Include) (n : Spot) (e : Entry) → isInclude e ≡ false → lineOut inc n e ≡ placed n e
-unfolding lineOut isInclude
-plain-line inc n ignored h = refl
-plain-line inc n (wrong k) h = refl
-plain-line inc n (group g ms) h = refl
-plain-line inc n (set s) h = refl
-plain-line inc n (rule ws) h = refl
-plain-line inc n (include w) h = absurd (no (sym h))
-
-plain-out : (inc : Include) (ls : List Line) → allOf (λ l. not (isInclude (entryOf l))) ls ≡ true → outLines inc 1 ls ≡ map onLine ls
-unfolding outLines allOf placed onLine
-plain-out inc [] h = refl
-plain-out inc (l ∷ ls) h =
-    let w = and-both (not (isInclude (entryOf l))) (allOf (λ i. not (isInclude (entryOf i))) ls) h in
-    let n : Spot = record { file = 1; line = l .number } in
-    rw (plain-line inc n (entryOf l) (not-true (isInclude (entryOf l)) (w .0)), plain-out inc ls (w .1))
-
-pub own-text : (x : Source) (f : File) (fs : List File) → filesOf (x .bundle) ≡ f ∷ fs → includesNothing (f .bytes) ≡ true → writtenOut x ≡ map onLine (lines (f .bytes))
-unfolding writtenOut includesNothing
-own-text x f fs e h =
-    ap (λ (s : Text). outLines (included deepest x) 1 (lines s)) (ap (λ (r : List File). bytesOf r 1) e ∙ bytes-first f fs)
-    ∙ plain-out (included deepest x) (lines (f .bytes)) h

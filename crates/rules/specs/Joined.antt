@@ -8,12 +8,12 @@ use mathlib.Core.Bool.{Bool, true, false, not, _&&_, cond}
 use lib.ListN.{length}
 use lib.Dec.{eqb}
 use Rattle.text.specs.Limits.{longestFile}
-use Rattle.text.specs.Bytes.{Text, allOf}
+use Rattle.text.specs.Bytes.{allOf}
 use Rattle.text.specs.Lines.{Line, lines, closed}
 use Rattle.bundle.specs.Bundle.{File, filesOf, whole}
 use Rattle.bundle.specs.Paths.{badPath}
 use Rattle.rules.specs.Entries.{Entry, ignored, wrong, group, set, rule, include, entryOf}
-use Rattle.rules.specs.Sections.{Spot, Placed}
+use Rattle.rules.specs.Sections.{Spot}
 use Rattle.rules.specs.Written.{Source, named}
 
 -- an include line that names the first file; a bad path names none
@@ -64,19 +64,3 @@ pub record FirstJoined (a b c : Source) : Type 0 where
 -- a line of the first file, k lines on; the lines of other files stay
 unfoldable pub firstOn : ℕ → Spot → Spot
 firstOn k s = cond (eqb (s .file) 1) (record { file = s .file; line = s .line + k }) s
-
--- an include line, and a text without one
-unfoldable pub isInclude : Entry → Bool
-isInclude ignored = false
-isInclude (wrong k) = false
-isInclude (group g ms) = false
-isInclude (set h) = false
-isInclude (rule ws) = false
-isInclude (include w) = true
-
-unfoldable pub includesNothing : Text → Bool
-includesNothing s = allOf (λ l. not (isInclude (entryOf l))) (lines s)
-
--- a line of the first file, as it stands there
-unfoldable pub onLine : Line → Placed
-onLine l = record { spot = record { file = 1; line = l .number }; entry = entryOf l }
