@@ -22,7 +22,7 @@ use Rattle.profile.proofs.Numbers.{profile-numbers}
 use Rattle.rules.specs.Written.{Source, writtenOut}
 use Rattle.rules.specs.Faults.{Group, lineFaults, bundleRefusals, fileRefusals}
 use Rattle.rules.specs.Names.{groupsOf, definesOf, namesOf}
-use Rattle.rules.specs.Joined.{FirstJoined, firstOn}
+use Rattle.rules.specs.Joined.{unnamed, FirstJoined, firstOn}
 use Rattle.rules.proofs.Shifted.{Move, movedLine}
 use Rattle.rules.proofs.Joined.{joined-lines}
 use Rattle.rules.proofs.Includes.{text-joins, joined-bundle}
@@ -81,7 +81,7 @@ length-names [] = refl
 length-names (g ∷ gs) = rw (length-names gs)
 
 -- the first file of c is that of a, then that of b
-module _ (a b c : Source) (o : FirstJoined a b c) (t : Texts) (room-a room-b room : ℕ) (xs ys : List Text)
+module _ (a b c : Source) (o : FirstJoined a b c) (free : allOf unnamed (a ∷ b ∷ c ∷ []) ≡ true) (t : Texts) (room-a room-b room : ℕ) (xs ys : List Text)
     (acc-a : answer room-a a t ≡ accepted xs) (acc-b : answer room-b b t ≡ accepted ys) (names : apart (namesOf b) (definesOf a) ≡ true) where
   first-a : (refusals room-a a t ≡ []) × (tenTexts a t ≡ xs)
   unfolding answer
@@ -108,7 +108,7 @@ module _ (a b c : Source) (o : FirstJoined a b c) (t : Texts) (room-a room-b roo
   m = firstOn (physical (o .first .bytes))
 
   text : writtenOut c ≡ writtenOut a ++ map (movedLine m) (writtenOut b)
-  text = text-joins a b c o
+  text = text-joins a b c o free
 
   bundle-c : bundleRefusals (c .bundle) ≡ []
   unfolding fileRefusals

@@ -25,8 +25,8 @@ none-first : (rs : List Refusal) → allOf hasNumber rs ≡ true → firstRefusa
 unfolding allOf hasNumber isNumber firstRefusal
 none-first [] h e = refl
 none-first (r ∷ rs) h e =
-    let w = and-both (leb 1 (r .number) && leb (r .number) 11) (allOf hasNumber rs) h in
-    let k = and-both (leb 1 (r .number)) (leb (r .number) 11) (w .0) in
+    let w = and-both (leb 1 (r .number) && leb (r .number) 15) (allOf hasNumber rs) h in
+    let k = and-both (leb 1 (r .number)) (leb (r .number) 15) (w .0) in
     absurd (omega (arith, leb-true 1 (r .number) (k .0)))
 
 pub some-first : (rs : List Refusal) → (firstRefusal rs .number ≡ 0 → ⊥) → empty rs ≡ false

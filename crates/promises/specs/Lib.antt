@@ -1,3 +1,4 @@
 pub mod Promises
+pub mod OneFile
 pub mod Examples
 pub mod Cards

@@ -7,19 +7,19 @@ use mathlib.Core.Bool.{true}
 use lib.ListN.{length, drop, getD, replicate}
 use Rattle.text.specs.declared.Refusal.{Refusal}
 use Rattle.text.specs.Limits.{longestTotal, mostGroups, mostLayouts, mostOptions}
-use Rattle.text.specs.Bytes.{Text, bytes as word, apart}
+use Rattle.text.specs.Bytes.{Text, bytes as word, allOf, apart}
 use Rattle.profile.specs.Profile.{Texts, Profile, profileOf, layoutCount, optionsOf}
 use Rattle.profile.specs.Options.{Alike, Within, withOptions}
 use Rattle.profile.proofs.Counts as counted
-use Rattle.rules.specs.Written.{Source, writtenOut}
+use Rattle.rules.specs.Written.{Source}
 use Rattle.rules.specs.Names.{definesOf, namesOf}
 use Rattle.rules.specs.Headings.{componentOf}
 use Rattle.rules.specs.Keywords.{keywords, AllExact}
 use Rattle.rules.proofs.Keywords as recognised
 use Rattle.rules.specs.Entries.{set, headingEntry}
 use Rattle.rules.specs.Sections.{Rule, applies}
-use Rattle.rules.specs.Faults.{Groups, bundleRefusals}
-use Rattle.rules.proofs.Shifted.{Move, movedLine}
+use Rattle.rules.specs.Faults.{Groups}
+use Rattle.rules.specs.Joined.{unnamed, FirstJoined}
 use Rattle.answers.specs.Firings.{headFires, fileFirings}
 use Rattle.answers.specs.Components.{valuesOf, base, additions, updates}
 use Rattle.answers.specs.declared.Outcome.{Outcome}
@@ -153,20 +153,24 @@ component-code room s f t ts c h = entry.entry-component room s f t ts h c
 pub component-fits : (room : ℕ) (s : Text) (c : ℕ) → componentCode room s c < 2 ^ 64
 component-fits = sheets.code-fits
 
--- Demand 3, joined files, over the texts with includes written out: the text of c is that of a, then that of b with its lines at other places. Both are
--- accepted for a profile, and the second names no group that the first defines. With 64 groups or fewer, a total of at most 1,048,576 bytes and room for it,
--- "a component's base text equals the first answer's, or the second's where that is empty, and its additions text equals the first's followed by the second's".
-module _ (a b c : Source) (m : Move) (t : Texts) (room-a room-b room : ℕ) (xs ys : List Text)
-    (joined : writtenOut c ≡ writtenOut a ++ map (movedLine m) (writtenOut b))
+-- Demand 3, joined files. "Demands 2 and 3 read over the text with includes written out; in 3 the three path texts are
+-- the same throughout and the bundles differ only in their first file, which no include names, and it is these first
+-- files, as lent, that are joined, end with the newline and keep the size." Of two bundles a and b that are accepted for
+-- a profile, the second names no group that the first defines. "The joined file is the first's bytes, then the second's;
+-- its limits are 65,536 bytes, 64 groups and a total of 1,048,576 bytes." With room for it, "a component's base text
+-- equals the first answer's, or the second's where that is empty, and its additions text equals the first's followed by
+-- the second's": so for c, whose first file is the joined one.
+module _ (a b c : Source) (t : Texts) (room-a room-b room : ℕ) (xs ys : List Text)
+    (joined : FirstJoined a b c)
+    (free : allOf unnamed (a ∷ b ∷ c ∷ []) ≡ true)
     (first : answer room-a a t ≡ accepted xs)
     (second : answer room-b b t ≡ accepted ys)
     (unshared : apart (namesOf b) (definesOf a) ≡ true)
-    (bundled : bundleRefusals (c .bundle) ≡ [])
     (groups : length (definesOf a) + length (definesOf b) ≤ mostGroups)
     (top : total (together xs ys) ≤ longestTotal)
     (enough : total (together xs ys) ≤ room) where
   pub joined-files : answer room c t ≡ accepted (together xs ys)
-  joined-files = laws.joined-answer a b c m joined t room-a room-b room xs ys first second unshared bundled groups top enough
+  joined-files = laws.joined-answer a b c joined free t room-a room-b room xs ys first second unshared groups top enough
 
   -- so for C, with a sheet of 40 bytes or more
   pub joined-entry : (sheet : ℕ) → sheetLength ≤ sheet → entryAnswer room sheet c t ≡ accepted (together xs ys)
@@ -216,21 +220,21 @@ pub resolve-again : (f : Source) (t : Texts) (d c′ : Text) (x : Outcome) (e′
 resolve-again f t d c′ x e′ y v w = (v .result ∙ sym (w .result), v .buffer ∙ sym (w .buffer))
 
 -- Demand 3, joined files: three resolves, each with a buffer of its own. The texts are those that the buffers hold.
-module _ (a b g : Source) (m : Move) (t : Texts) (c c′ : Text) (x : Outcome) (e e′ : Text) (y : Outcome) (d d′ : Text) (z : Outcome)
-    (joined : writtenOut g ≡ writtenOut a ++ map (movedLine m) (writtenOut b))
+module _ (a b g : Source) (t : Texts) (c c′ : Text) (x : Outcome) (e e′ : Text) (y : Outcome) (d d′ : Text) (z : Outcome)
+    (joined : FirstJoined a b g)
+    (none-named : allOf unnamed (a ∷ b ∷ g ∷ []) ≡ true)
     (first : Resolved a t c c′ x)
     (second : Resolved b t e e′ y)
     (both : Resolved g t d d′ z)
     (accepted-first : x .number ≡ 0)
     (accepted-second : y .number ≡ 0)
     (names-apart : apart (namesOf b) (definesOf a) ≡ true)
-    (bundled : bundleRefusals (g .bundle) ≡ [])
     (groups : length (definesOf a) + length (definesOf b) ≤ mostGroups)
     (top : total (together (textsIn c′ (x .lengths)) (textsIn e′ (y .lengths))) ≤ longestTotal)
     (enough : total (together (textsIn c′ (x .lengths)) (textsIn e′ (y .lengths))) ≤ length d) where
   pub joined-resolve : (z .number ≡ 0) × (textsIn d′ (z .lengths) ≡ together (textsIn c′ (x .lengths)) (textsIn e′ (y .lengths)))
   joined-resolve =
-      resolves.joined-resolve a b g m joined t c c′ x e e′ y d d′ z first second both accepted-first accepted-second names-apart bundled groups top enough
+      resolves.joined-resolve a b g joined none-named t c c′ x e e′ y d d′ z first second both accepted-first accepted-second names-apart groups top enough
 
 -- Demand 3, options: two resolves "that differ only in this, with buffers of the same bytes, give the same answer (number, place and lengths) and leave
 -- the same bytes".

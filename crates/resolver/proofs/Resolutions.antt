@@ -7,12 +7,12 @@ use mathlib.Core.List.{List, [], _∷_, _++_, map, append-assoc}
 use lib.ListN.{length, drop, replicate, length-append, length-drop}
 use lib.Seq.{take-append-seam, drop-append-seam}
 use Rattle.text.specs.Limits.{longestTotal, mostGroups}
-use Rattle.text.specs.Bytes.{Text, apart}
+use Rattle.text.specs.Bytes.{Text, allOf, apart}
 use Rattle.profile.specs.Profile.{Texts}
 use Rattle.profile.specs.Options.{Alike, Within, withOptions}
 use Rattle.rules.specs.Written.{Source}
 use Rattle.rules.specs.Names.{definesOf, namesOf}
-use Rattle.rules.specs.Joined.{FirstJoined}
+use Rattle.rules.specs.Joined.{unnamed, FirstJoined}
 use Rattle.answers.specs.declared.Outcome.{Outcome}
 use Rattle.answers.specs.Answer.{tenTexts, sum, joined, total, Answer, refused, accepted, answer, numberOf, placeOf, lengthsOf, outcome, bufferAfter, Answered, Resolved, textsIn}
 use Rattle.answers.specs.Joined.{together}
@@ -75,7 +75,7 @@ pub held : (f : Source) (t : Texts) (d d′ : Text) (r : Outcome) → Resolved f
 held f t d d′ r v h = let a = accepts (length d) f t r (v .result) h in holds f t d d′ r (tenTexts f t) (a .is) refl (a .fits) v
 
 -- joined first files: that of g is that of a, then that of b
-module _ (a b g : Source) (o : FirstJoined a b g) (t : Texts) (c c′ : Text) (x : Outcome) (e e′ : Text) (y : Outcome) (d d′ : Text) (z : Outcome)
+module _ (a b g : Source) (o : FirstJoined a b g) (free : allOf unnamed (a ∷ b ∷ g ∷ []) ≡ true) (t : Texts) (c c′ : Text) (x : Outcome) (e e′ : Text) (y : Outcome) (d d′ : Text) (z : Outcome)
     (first : Resolved a t c c′ x) (second : Resolved b t e e′ y) (both : Resolved g t d d′ z)
     (n : x .number ≡ 0) (k : y .number ≡ 0) where
   texts : together (textsIn c′ (x .lengths)) (textsIn e′ (y .lengths)) ≡ together (tenTexts a t) (tenTexts b t)
@@ -91,7 +91,7 @@ module _ (a b g : Source) (o : FirstJoined a b g) (t : Texts) (c c′ : Text) (x
       let q = accepts (length e) b t y (second .result) k in
       let u : total (together (tenTexts a t) (tenTexts b t)) ≤ longestTotal = rw (sym texts) top in
       let w : total (together (tenTexts a t) (tenTexts b t)) ≤ length d = rw (sym texts) fits in
-      let j = joined-answer a b g o t (length c) (length e) (length d) (tenTexts a t) (tenTexts b t) (p .is) (q .is) names groups u w in
+      let j = joined-answer a b g o free t (length c) (length e) (length d) (tenTexts a t) (tenTexts b t) (p .is) (q .is) names groups u w in
       let i : z .number ≡ 0 = ap (λ (r : Outcome). r .number) (both .result ∙ ap outcome j) in
       let r = accepts (length d) g t z (both .result) i in
       (i, held g t d d′ z both i .texts ∙ same-texts (sym (r .is) ∙ j) ∙ sym texts)

@@ -80,10 +80,7 @@ whole-clear x h = go (whole (x .bundle)) refl (nil-left (bundleRefusals (x .bund
   where
     go : (b : Bool) → whole (x .bundle) ≡ b → bundleRefusals (x .bundle) ≡ [] → whole (x .bundle) ≡ true
     go true e q = e
-    go false e q = absurd (cut (rw e at q))
-      where
-        cut : _≡_ {A = List Refusal} (record { number = 12; place = 0 } ∷ []) [] → ⊥
-        cut z = cc
+    go false e q = let z : _≡_ {A = List Refusal} (record { number = 12; place = 0 } ∷ []) [] = rw e at q in cc
 
 -- an accepted bundle is read again without a refusal
 pub read-again : (f : Source) (t : Texts) (w w′ : Text) (at : List ℕ) (r : FileRead) → lineFaults f ≡ [] → ReadFor f t w w′ at r → r .number ≡ 0

@@ -34,7 +34,7 @@ fn refused(r: Refusal) -> Outcome
 
 // Whether a bundle begins with a count of files: such a count is at most 65,535, so that no place is over 2^48.
 pub fn has_count(bundle: &[u8]) -> bool
-    ensures { λ r. ⌜ whole (now (bundle .entry)) ≡ true → length (filesOf (now (bundle .entry))) ≤ 65535 ⌝ }
+    ensures { λ r. ⌜ (whole (now (bundle .entry)) ≡ true → length (filesOf (now (bundle .entry))) ≤ 65535) ⌝ }
 {
     if bundle.len() < 2 {
         return false;

@@ -1,13 +1,13 @@
--- The text of a bundle whose first file is joined of two: the first's, then the second's, with the lines of its first file moved on.
+-- The text of a bundle whose first file is joined of two: the first's, then the second's, whose lines of the first
+-- file are moved on.
 use Prim.Native.Nat.{ℕ, zero, suc, _+_, _≤_}
 use native.Mathlib.Omega.{arith}
 use mathlib.Core.Path.{_≡_, refl, sym, ap, _∙_}
 use mathlib.Core.List.{List, [], _∷_, _++_, map, append-assoc}
-use mathlib.Core.Bool.{Bool, true, false, cond, not, _&&_}
+use mathlib.Core.Bool.{Bool, true, false, cond, not}
 use lib.ListN.{length}
 use lib.Dec.{eqb, ltb}
 use borrow.Author.Tests.{ne-eqb, eqb-true, eqb-false, not-true, not-false, le-ltb}
-use Rattle.text.specs.declared.Refusal.{Refusal}
 use Rattle.text.specs.Limits.{longestFile}
 use Rattle.text.specs.Bytes.{Text, same, allOf}
 use Rattle.text.specs.Refusals.{refusedIf}
@@ -22,7 +22,7 @@ use Rattle.rules.specs.Entries.{Entry, ignored, wrong, group, set, rule,
 use Rattle.rules.specs.Sections.{Spot, placeOf, Placed}
 use Rattle.rules.specs.Written.{Source, Include, placed, lineOut, outLines, between, named, included, deepest, writtenOut}
 use Rattle.rules.specs.Faults.{bundleRefusals}
-use Rattle.rules.specs.Joined.{namesFirst, avoids, unnamed, SamePaths, Leads, FirstJoined, firstOn, isInclude, includesNothing, onLine}
+use Rattle.rules.specs.Joined.{namesFirst, avoids, unnamed, SamePaths, FirstJoined, firstOn}
 use Rattle.rules.proofs.Shifted.{Move, movedLine}
 
 out-append : (inc : Include) (k : ℕ) (a b : List Line) → outLines inc k (a ++ b) ≡ outLines inc k a ++ outLines inc k b
@@ -107,6 +107,11 @@ avoids-file x j h = avoids-bytes x 1 j (filesOf (x .bundle)) h
 not-first : (x : Source) (w : Text) → badPath w ≡ false → namesFirst x (include w) ≡ false → eqb (named x w) 1 ≡ false
 unfolding namesFirst
 not-first x w g h = rw g at h
+
+-- the files of a bundle are this one, which no include names, and these others
+record Leads (x : Source) (f : File) (fs : List File) : Type 0 where
+  files : filesOf (x .bundle) ≡ f ∷ fs
+  free : unnamed x ≡ true
 
 module _ (x : Source) (f : File) (fs : List File) (o : Leads x f fs) where
   named-rest : (w : Text) → eqb (named x w) 1 ≡ false → named x w ≡ numberFrom 2 fs (pathOf (x .home) (x .extra) (x .system) w)
@@ -321,9 +326,21 @@ first-short : (f : File) (fs : List File) → length (f .bytes) ≤ longestFile 
 unfolding firstLong longFrom
 first-short f fs l h = rw (le-ltb longestFile (length (f .bytes)) l) h
 
+free-three : (a b c : Source) → allOf unnamed (a ∷ b ∷ c ∷ []) ≡ true → (unnamed a ≡ true) × (unnamed b ≡ true) × (unnamed c ≡ true)
+unfolding allOf
+free-three a b c h =
+    let w = and-both (unnamed a) _ h in
+    let v = and-both (unnamed b) _ (w .1) in
+    (w .0, v .0, and-both (unnamed c) _ (v .1) .0)
+
 module _ (a b c : Source) (o : FirstJoined a b c) where
-  pub text-joins : writtenOut c ≡ writtenOut a ++ map (movedLine (firstOn (physical (o .first .bytes)))) (writtenOut b)
-  text-joins =
+  pub text-joins : allOf unnamed (a ∷ b ∷ c ∷ []) ≡ true →
+      writtenOut c ≡ writtenOut a ++ map (movedLine (firstOn (physical (o .first .bytes)))) (writtenOut b)
+  text-joins free =
+      let u = free-three a b c free in
+      let la : Leads a (o .first) (o .others) = record { files = o .files-a; free = u .0 } in
+      let lb : Leads b (o .second) (o .others) = record { files = o .files-b; free = u .1 } in
+      let lc : Leads c (o .both) (o .others) = record { files = o .files-c; free = u .2 } in
       let j = physical (o .first .bytes) in
       let A = lines (o .first .bytes) in
       let B = lines (o .second .bytes) in
@@ -331,48 +348,23 @@ module _ (a b c : Source) (o : FirstJoined a b c) where
       let Ib = included deepest b in
       let Ic = included deepest c in
       let joins : lines (o .both .bytes) ≡ A ++ map (shifted j) B = ap lines (o .bytes) ∙ lines-join (o .first .bytes) (o .second .bytes) (o .ended) in
-      let free = avoids-append c A (map (shifted j) B) (rw joins at (first-avoids c (o .both) (o .others) (o .leads-c))) in
-      let free-b : avoids c B ≡ true = rw (avoids-shifted c j B) at (free .1) in
-      text-is c (o .both) (o .others) (o .leads-c)
+      let v = avoids-append c A (map (shifted j) B) (rw joins at (first-avoids c (o .both) (o .others) lc)) in
+      let w : avoids c B ≡ true = rw (avoids-shifted c j B) at (v .1) in
+      text-is c (o .both) (o .others) lc
       ∙ ap (outLines Ic 1) joins
       ∙ out-append Ic 1 A (map (shifted j) B)
       ∙ rw (
-        same-out c a Ic Ia 1 A (free .0) (first-avoids a (o .first) (o .others) (o .leads-a)) (same-include c a (o .both) (o .first) (o .others) (o .leads-c) (o .leads-a) (o .paths-a) deepest),
-        shift-out c Ic j B free-b (moved-include j c (o .both) (o .others) (o .leads-c) deepest),
-        same-out c b Ic Ib 1 B free-b (first-avoids b (o .second) (o .others) (o .leads-b)) (same-include c b (o .both) (o .second) (o .others) (o .leads-c) (o .leads-b) (o .paths-b) deepest),
-        ← text-is a (o .first) (o .others) (o .leads-a),
-        ← text-is b (o .second) (o .others) (o .leads-b),
+        same-out c a Ic Ia 1 A (v .0) (first-avoids a (o .first) (o .others) la) (same-include c a (o .both) (o .first) (o .others) lc la (o .paths-a) deepest),
+        shift-out c Ic j B w (moved-include j c (o .both) (o .others) lc deepest),
+        same-out c b Ic Ib 1 B w (first-avoids b (o .second) (o .others) lb) (same-include c b (o .both) (o .second) (o .others) lc lb (o .paths-b) deepest),
+        ← text-is a (o .first) (o .others) la,
+        ← text-is b (o .second) (o .others) lb,
       )
 
-  -- The joined bundle is refused by none of 12 and 3 if that of a is not.
+  -- Neither 12 nor 3 holds for the bundle of c where they do not for that of a.
   pub joined-bundle : bundleRefusals (a .bundle) ≡ [] → bundleRefusals (c .bundle) ≡ []
   unfolding bundleRefusals refusedIf
   joined-bundle h =
-      let z : longFrom 2 (o .others) ≡ 0 = others-short (o .first) (o .others) (rw (o .leads-a .files) at (none-long (a .bundle) h)) in
-      let k : firstLong (filesOf (c .bundle)) ≡ 0 = rw (o .leads-c .files) (first-short (o .both) (o .others) (o .size) z) in
+      let z : longFrom 2 (o .others) ≡ 0 = others-short (o .first) (o .others) (rw (o .files-a) at (none-long (a .bundle) h)) in
+      let k : firstLong (filesOf (c .bundle)) ≡ 0 = rw (o .files-c) (first-short (o .both) (o .others) (o .size) z) in
       rw (o .lent, k)
-
--- a first file without include lines
-
-plain-line : (inc : Include) (n : Spot) (e : Entry) → isInclude e ≡ false → lineOut inc n e ≡ placed n e
-unfolding lineOut isInclude
-plain-line inc n ignored h = refl
-plain-line inc n (wrong k) h = refl
-plain-line inc n (group g ms) h = refl
-plain-line inc n (set s) h = refl
-plain-line inc n (rule ws) h = refl
-plain-line inc n (include w) h = absurd (no (sym h))
-
-plain-out : (inc : Include) (ls : List Line) → allOf (λ l. not (isInclude (entryOf l))) ls ≡ true → outLines inc 1 ls ≡ map onLine ls
-unfolding outLines allOf placed onLine
-plain-out inc [] h = refl
-plain-out inc (l ∷ ls) h =
-    let w = and-both (not (isInclude (entryOf l))) (allOf (λ i. not (isInclude (entryOf i))) ls) h in
-    let n : Spot = record { file = 1; line = l .number } in
-    rw (plain-line inc n (entryOf l) (not-true (isInclude (entryOf l)) (w .0)), plain-out inc ls (w .1))
-
-pub own-text : (x : Source) (f : File) (fs : List File) → filesOf (x .bundle) ≡ f ∷ fs → includesNothing (f .bytes) ≡ true → writtenOut x ≡ map onLine (lines (f .bytes))
-unfolding writtenOut includesNothing
-own-text x f fs e h =
-    ap (λ (s : Text). outLines (included deepest x) 1 (lines s)) (ap (λ (r : List File). bytesOf r 1) e ∙ bytes-first f fs)
-    ∙ plain-out (included deepest x) (lines (f .bytes)) h

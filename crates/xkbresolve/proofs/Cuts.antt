@@ -24,6 +24,23 @@ drop-past zero (b ∷ s) h = absurd (omega arith)
 drop-past (suc i) [] h = refl
 drop-past (suc i) (b ∷ s) h = drop-past i s (omega arith)
 
+later-less : (s : Text) → length (laterLines s) ≤ length s
+unfolding laterLines
+later-less [] = omega arith
+later-less (b ∷ s) = go (eqb b 10) (later-less s)
+  where
+    go : (t : Bool) → length (laterLines s) ≤ length s → length (cond t s (laterLines s)) ≤ suc (length s)
+    go true h = omega arith
+    go false h = omega arith
+
+pub later-short : (s a b c f : Text) → a ≡ laterLines s → b ≡ laterLines a → c ≡ laterLines b → f ≡ laterLines c → length f ≤ length s
+later-short s a b c f ea eb ec ef =
+    let p : length a ≤ length s = rw ea (later-less s) in
+    let q : length b ≤ length a = rw eb (later-less a) in
+    let u : length c ≤ length b = rw ec (later-less b) in
+    let v : length f ≤ length c = rw ef (later-less c) in
+    omega arith
+
 -- the line's length is i and the length of the line that is left at i
 pub line-start : (s : Text) → length (firstLine s) ≡ 0 + length (firstLine (drop 0 s))
 line-start s = omega arith

@@ -1,9 +1,9 @@
 -- The ways out of a run: what is written is what is printed of the input's answer.
-use Prim.Native.Nat.{ℕ, suc, _≤_, _<_}
+use Prim.Native.Nat.{ℕ, suc, _-_, _≤_, _<_}
 use native.Mathlib.Omega.{arith}
 use mathlib.Core.Path.{_≡_, refl, sym, ap, _∙_}
 use mathlib.Core.List.{List, []}
-use lib.ListN.{length, take, length-append}
+use lib.ListN.{length, take, drop, length-append}
 use borrow.Author.Tests.{lt-ltb, le-ltb}
 use Rattle.io.specs.Counts.{Counts}
 use Rattle.text.specs.Limits.{longestFile}
@@ -23,6 +23,10 @@ pub input-answer : (s a b c f m l v o g : Text) → g ≡ loneBundle f → lengt
     v ≡ firstLine b → c ≡ laterLines b → o ≡ firstLine c → f ≡ laterLines c → answer lentRoom (record { bundle = g; home = []; extra = []; system = [] }) (textsOf m l v o) ≡ inputAnswer s
 unfolding inputAnswer inputTexts inputRules
 input-answer s a b c f m l v o g eg h em ea el eb ev ec eo ef = rw (le-ltb longestFile (length s) h, eg, em, el, ev, eo, ef, ec, eb, ea)
+
+-- the bundle, lent as the start of its array
+pub pack-whole : (d f : Text) (r n : ℕ) → n ≡ r → take r d ≡ loneBundle f → take (n - 0) (drop 0 d) ≡ loneBundle f
+pack-whole d f r n e h = let z : n - 0 ≡ r = omega arith in rw z h
 
 -- how much is printed
 

@@ -8,11 +8,15 @@ use Rattle.resolver.proofs.resolving.place_of.Tie as tie
 
 mul-result : tie.Need-mul-result
 unfolding placeOf
-mul-result c = omega (arith, @start .pre)
+mul-result c =
+    let start = c in
+    omega (arith, start .pre)
 
 add-result : tie.Need-add-result
 unfolding placeOf
-add-result c = omega (arith, @start .pre)
+add-result c =
+    let start = c in
+    omega (arith, start .pre)
 
 returns : tie.Need-returns
 unfolding placeOf
