@@ -20,7 +20,7 @@
 
 #include "tool.h"
 
-enum { MOST_TAIL = 64 };
+enum { MOST_TAIL = 64, MOST_TRIED = XKBRULES_LONGEST_FILE + 2 * MOST_TAIL }; /* a heading and a line of a file, a tail */
 
 /* A file that is asked about with one line cut and completed. */
 typedef struct {
@@ -257,7 +257,7 @@ static size_t find_spot(const bundle *b, verdict v, const scene *s)
     memset(&t, 0, sizeof t);
     t.scene = s;
     t.number = v.number;
-    t.bytes = memset(claim(NULL, XKBRULES_LONGEST_FILE + 2 * MOST_TAIL), 0, XKBRULES_LONGEST_FILE + 2 * MOST_TAIL); /* a heading and a line of one file, and a tail */
+    t.bytes = memset(claim(NULL, MOST_TRIED), 0, MOST_TRIED);
     t.b = *b;
     t.b.files = memcpy(claim(NULL, b->count * sizeof *b->files), b->files, b->count * sizeof *b->files);
     if (s->kind == SET_HEADING && s->heading.equals == 1) {
