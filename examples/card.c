@@ -25,7 +25,7 @@ static int failed(const char *about)
 
 static int server(char **argv)
 {
-    static uint8_t rules[XKBRULES_LONGEST_FILE + 1]; /* one more than may be, so that a longer file is refused and not cut */
+    static uint8_t rules[XKBRULES_LONGEST_FILE + 1]; /* one more, so that a longer file is refused and not cut */
     static uint8_t bundle[XKBRULES_LONE_BUNDLE], texts[XKBRULES_ROOM], card[XKBRULES_MOST_CARD];
     uint8_t sheet[XKBRULES_SHEET];
     const uint8_t *in[4];

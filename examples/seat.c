@@ -18,8 +18,9 @@
 
 #include "xkbrules-keymap.h"
 
-/* A house needs a handful of files. The limit ends the asking whatever the files say. */
-enum { MOST_FILES = 16, MOST_NAME = 1024, READ = XKBRULES_LONGEST_FILE + 1 }; /* one more, so that a longer file is refused and not cut */
+/* A house needs a handful of files; the limit ends the asking whatever they say. One byte more than may be is read of
+   each, so that a longer file is refused and not cut. */
+enum { MOST_FILES = 16, MOST_NAME = 1024, READ = XKBRULES_LONGEST_FILE + 1 };
 
 static uint8_t bytes[MOST_FILES][READ];
 static char names[MOST_FILES][MOST_NAME + 1]; /* the first stays empty: no include line names that file */
@@ -117,8 +118,9 @@ int main(int argc, char **argv)
     /* Empty texts are accepted, and their strings name no layout: defaults are the caller's. */
     model = argv[2][0] == '\0' ? "pc105" : argv[2];
     layouts = argv[3][0] == '\0' ? "us" : argv[3];
-    answer = xkbrules_resolve(bundle, bundle_len, text(home), strlen(home), text(extra), strlen(extra), text(system_rules), strlen(system_rules),
-                              text(model), strlen(model), text(layouts), strlen(layouts), text(argv[4]), strlen(argv[4]), text(argv[5]), strlen(argv[5]),
+    answer = xkbrules_resolve(bundle, bundle_len, text(home), strlen(home), text(extra), strlen(extra),
+                              text(system_rules), strlen(system_rules), text(model), strlen(model),
+                              text(layouts), strlen(layouts), text(argv[4]), strlen(argv[4]), text(argv[5]), strlen(argv[5]),
                               texts, sizeof texts, sheet, sizeof sheet);
     if (xkbrules_number(answer) != XKBRULES_ACCEPTED)
         return refuse(answer);

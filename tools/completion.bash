@@ -1,4 +1,4 @@
-# Completion of xkbrules for bash: commands, options, files. For the value of an option it has folders or nothing to offer.
+# Completion of xkbrules for bash: commands, options, files; folders for a path text, nothing for other values.
 _xkbrules()
 {
     local word=${COMP_WORDS[COMP_CWORD]} before=${COMP_WORDS[COMP_CWORD - 1]} command= i words

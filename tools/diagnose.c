@@ -20,7 +20,7 @@
 
 #include "tool.h"
 
-enum { MOST_TAIL = 64 };
+enum { MOST_TAIL = 64, MOST_TRIED = XKBRULES_LONGEST_FILE + XKBRULES_MOST_WORD + 2 * MOST_TAIL }; /* two lines, a tail */
 
 /* A file that is asked about with one line cut and completed. */
 typedef struct {
@@ -213,25 +213,37 @@ static size_t find_cut(trial *t)
     return bad - 1;
 }
 
-/* A file of the line and its heading alone, where the library refuses that so as well. Few numbers depend on more; and
-   short files are quickly asked about, and have room for a tail. */
+/* The line before the one that is tried: the heading in force; for an include line, whose file would be missing, a group
+   line, after which a rule needs a heading as well; for a group that was defined before, a line that does so. */
+static size_t put_before(trial *t, const scene *s)
+{
+    char *to = (char *)t->bytes;
+    span group = s->line.words[0];
+
+    if (t->number == XKBRULES_BAD_GROUP && s->reading.again)
+        return (size_t)sprintf(to, "! %.*s =\n", (int)(group.to - group.from), (const char *)s->bytes + group.from);
+    if (s->kind == INCLUDE_LINE)
+        return (size_t)sprintf(to, "! $g =\n");
+    if (s->kind == NO_HEADING)
+        return 0;
+    memcpy(to, s->bytes + s->heading.from, s->heading.end - s->heading.from);
+    to[s->heading.end - s->heading.from] = '\n';
+    return s->heading.end - s->heading.from + 1;
+}
+
+/* A file of the line and one before it, where the library refuses that so as well. Few numbers depend on more; and short
+   files are quickly asked about, and have room for a tail. */
 static int small_trial(trial *t, const scene *s)
 {
     verdict v;
-    size_t n = 0;
 
     t->file = 0;
     t->b.count = 1;
     t->b.files[0].path_len = 0;
-    if (s->kind != NO_HEADING) {
-        n = s->heading.end - s->heading.from;
-        memcpy(t->bytes, s->bytes + s->heading.from, n);
-        t->bytes[n++] = '\n';
-    }
-    memcpy(t->bytes + n, s->bytes + s->line.from, s->line.to - s->line.from);
-    t->from = n;
-    t->len = n + (s->line.to - s->line.from);
-    t->place = line_number(t->bytes, n);
+    t->from = put_before(t, s);
+    memcpy(t->bytes + t->from, s->bytes + s->line.from, s->line.to - s->line.from);
+    t->len = t->from + (s->line.to - s->line.from);
+    t->place = line_number(t->bytes, t->from);
     v = ask_bytes(t, t->len);
     return v.number == t->number && v.place == t->place;
 }
@@ -257,7 +269,7 @@ static size_t find_spot(const bundle *b, verdict v, const scene *s)
     memset(&t, 0, sizeof t);
     t.scene = s;
     t.number = v.number;
-    t.bytes = memset(claim(NULL, XKBRULES_LONGEST_FILE + 2 * MOST_TAIL), 0, XKBRULES_LONGEST_FILE + 2 * MOST_TAIL); /* a heading and a line of one file, and a tail */
+    t.bytes = memset(claim(NULL, MOST_TRIED), 0, MOST_TRIED);
     t.b = *b;
     t.b.files = memcpy(claim(NULL, b->count * sizeof *b->files), b->files, b->count * sizeof *b->files);
     if (s->kind == SET_HEADING && s->heading.equals == 1) {
