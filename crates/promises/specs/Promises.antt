@@ -37,7 +37,7 @@ use Rattle.answers.proofs.AllLayouts as spellings
 use Rattle.xkbrules.specs.Sheet.{sheetLength, entryAnswer, code, sheetAfter, lengthsIn, componentCode}
 use Rattle.xkbrules.proofs.Sheet as sheets
 use Rattle.xkbrules.proofs.Entry as entry
-use Rattle.xkbrules.proofs.Packed as packed
+use Rattle.xkbrules.proofs.ReadBack as packed
 
 -- Demand 1: "Every file and every profile gets an answer": ten texts that fit the buffer, or a refusal with a number from 1 to 11.
 pub answered : (room : ℕ) (f : Text) (t : Texts) → Answered room (answer room f t)

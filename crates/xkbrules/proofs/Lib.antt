@@ -4,4 +4,4 @@ pub mod Entry
 pub mod Ways
 pub mod CardWays
 pub mod Desk
-pub mod Packed
+pub mod ReadBack

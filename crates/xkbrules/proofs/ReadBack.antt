@@ -20,6 +20,10 @@ pub code-read : (a : Answer) → placeOf a ≤ 65537 → (code a / 2 ^ 48 ≡ nu
 unfolding code
 code-read a h = packed (numberOf a) (placeOf a) h
 
+short-place : (a : Answer) → a ≡ refused (record { number = 11; place = 0 }) → placeOf a ≤ 65537
+unfolding placeOf
+short-place a e = let z : placeOf a ≡ 0 = ap placeOf e in omega (arith, z)
+
 -- the place of an answer for C is as low as that of a resolve
 pub entry-low : (room sheet : ℕ) (f : Text) (t : Texts) → placeOf (entryAnswer room sheet f t) ≤ 65537
 entry-low room sheet f t = go (ltb sheet sheetLength) refl (answer room f t) refl
@@ -27,8 +31,4 @@ entry-low room sheet f t = go (ltb sheet sheetLength) refl (answer room f t) ref
     go : (b : Bool) → ltb sheet sheetLength ≡ b → (a : Answer) → answer room f t ≡ a → placeOf (entryAnswer room sheet f t) ≤ 65537
     go false e a q = rw (entry-same room sheet f t (ltb-false sheet sheetLength e)) (place-low room f t)
     go true e (refused r) q = rw (entry-refused room sheet f t r q, ← q) (place-low room f t)
-    go true e (accepted ts) q = let z = ap placeOf (entry-short room sheet f t ts (ltb-true sheet sheetLength e) q) in none (placeOf (entryAnswer room sheet f t)) z
-      where
-        none : (p : ℕ) → p ≡ placeOf (refused (record { number = 11; place = 0 })) → p ≤ 65537
-        unfolding placeOf
-        none p z = omega (arith, z)
+    go true e (accepted ts) q = short-place _ (entry-short room sheet f t ts (ltb-true sheet sheetLength e) q)
