@@ -16,7 +16,10 @@ same-length : tie.Need-same-length
 same-length c = search needs
 
 returns : tie.Need-returns
-returns c = out-long _ _ _ (c .before .before .before .before .before .before .before .pre .0) (c .before .before .before .before .before .before .before .pre .1) (now (c .before .before .before .before .before .before .before .args .input)) (c .before .before .before .before .if1 .taken) (c .before .before .put-refusal .ensures)
+returns c =
+    let start = c .before .before .before .before .before .before .before in
+    let the-if1 = c .before .before .before .before .if1 in
+    out-long _ _ _ (start .pre .0) (start .pre .1) (now (start .args .input)) (the-if1 .taken) (c .before .before .put-refusal .ensures)
 
 first-line-requires : tie.Need-first-line-requires
 first-line-requires c κs = search needs
@@ -58,16 +61,31 @@ same-length-2 : tie.Need-same-length-2
 same-length-2 c = search needs
 
 returns-2 : tie.Need-returns-2
-returns-2 c = out-refused _ _ _ (c .before .before .before .before .before .before .before .before .before .before .before .before .before .before .before .before .before .before .before .before .pre .0) (c .before .before .before .before .before .before .before .before .before .before .before .before .before .before .before .before .before .before .before .before .pre .1) (now (c .before .before .before .before .before .before .before .before .before .before .before .before .before .before .before .before .before .before .before .before .args .input)) (replicate 65536 0) _ _ _ (length-replicate {A = ℕ} 65536 0) (c .before .before .before .before .before .before .before .resolve .ensures .result)
-    (input-answer _ _ _ _ _ _ _ _ _ (c .before .before .before .before .before .before .before .before .before .before .before .before .before .before .before .before .before .if1 .left) (c .before .before .before .before .before .before .before .before .before .before .before .before .before .before .before .before .first-line .ensures) (c .before .before .before .before .before .before .before .before .before .before .before .before .before .before .before .later-lines .ensures) (c .before .before .before .before .before .before .before .before .before .before .before .before .before .before .first-line2 .ensures) (c .before .before .before .before .before .before .before .before .before .before .before .before .before .later-lines2 .ensures)
-    (c .before .before .before .before .before .before .before .before .before .before .before .before .first-line3 .ensures) (c .before .before .before .before .before .before .before .before .before .before .before .later-lines3 .ensures) (c .before .before .before .before .before .before .before .before .before .before .first-line4 .ensures) (c .before .before .before .before .before .before .before .before .before .later-lines4 .ensures))
-    (c .before .before .before .before .if2 .taken) (c .before .before .put-refusal2 .ensures)
+returns-2 c =
+    let start = c .before .before .before .before .before .before .before .before .before .before .before .before .before .before .before .before .before .before .before .before in
+    let the-if1 = c .before .before .before .before .before .before .before .before .before .before .before .before .before .before .before .before .before .if1 in
+    let the-first-line = c .before .before .before .before .before .before .before .before .before .before .before .before .before .before .before .before .first-line in
+    let the-later-lines = c .before .before .before .before .before .before .before .before .before .before .before .before .before .before .before .later-lines in
+    let the-first-line2 = c .before .before .before .before .before .before .before .before .before .before .before .before .before .before .first-line2 in
+    let the-later-lines2 = c .before .before .before .before .before .before .before .before .before .before .before .before .before .later-lines2 in
+    let the-first-line3 = c .before .before .before .before .before .before .before .before .before .before .before .before .first-line3 in
+    let the-later-lines3 = c .before .before .before .before .before .before .before .before .before .before .before .later-lines3 in
+    let the-first-line4 = c .before .before .before .before .before .before .before .before .before .before .first-line4 in
+    let the-later-lines4 = c .before .before .before .before .before .before .before .before .before .later-lines4 in
+    let the-resolve = c .before .before .before .before .before .before .before .resolve in
+    let the-if2 = c .before .before .before .before .if2 in
+    out-refused _ _ _ (start .pre .0) (start .pre .1) (now (start .args .input)) (replicate 65536 0) _ _ _ (length-replicate {A = ℕ} 65536 0) (the-resolve .ensures .result)
+    (input-answer _ _ _ _ _ _ _ _ _ (the-if1 .left) (the-first-line .ensures) (the-later-lines .ensures) (the-first-line2 .ensures) (the-later-lines2 .ensures)
+    (the-first-line3 .ensures) (the-later-lines3 .ensures) (the-first-line4 .ensures) (the-later-lines4 .ensures))
+    (the-if2 .taken) (c .before .before .put-refusal2 .ensures)
 
 slice-aggregate-put-components : tie.Need-slice-aggregate-put-components
 slice-aggregate-put-components c = search needs
 
 put-components-requires : tie.Need-put-components-requires
-put-components-requires c κs = c .before .before .before .before .before .before .before .before .before .before .before .before .before .before .before .before .before .before .before .pre .1
+put-components-requires c κs =
+    let start = c .before .before .before .before .before .before .before .before .before .before .before .before .before .before .before .before .before .before .before in
+    start .pre .1
 
 cast-result-3 : tie.Need-cast-result-3
 cast-result-3 c = search needs
@@ -76,10 +94,23 @@ same-length-3 : tie.Need-same-length-3
 same-length-3 c = search needs
 
 returns-3 : tie.Need-returns-3
-returns-3 c = out-accepted _ _ _ (c .before .before .before .before .before .before .before .before .before .before .before .before .before .before .before .before .before .before .before .before .before .before .pre .0) (c .before .before .before .before .before .before .before .before .before .before .before .before .before .before .before .before .before .before .before .before .before .before .pre .1) (now (c .before .before .before .before .before .before .before .before .before .before .before .before .before .before .before .before .before .before .before .before .before .before .args .input)) (replicate 65536 0) _ _ _ (length-replicate {A = ℕ} 65536 0) (c .before .before .before .before .before .before .before .before .before .resolve .ensures .result)
-    (input-answer _ _ _ _ _ _ _ _ _ (c .before .before .before .before .before .before .before .before .before .before .before .before .before .before .before .before .before .before .before .if1 .left) (c .before .before .before .before .before .before .before .before .before .before .before .before .before .before .before .before .before .before .first-line .ensures) (c .before .before .before .before .before .before .before .before .before .before .before .before .before .before .before .before .before .later-lines .ensures) (c .before .before .before .before .before .before .before .before .before .before .before .before .before .before .before .before .first-line2 .ensures) (c .before .before .before .before .before .before .before .before .before .before .before .before .before .before .before .later-lines2 .ensures)
-    (c .before .before .before .before .before .before .before .before .before .before .before .before .before .before .first-line3 .ensures) (c .before .before .before .before .before .before .before .before .before .before .before .before .before .later-lines3 .ensures) (c .before .before .before .before .before .before .before .before .before .before .before .before .first-line4 .ensures) (c .before .before .before .before .before .before .before .before .before .before .before .later-lines4 .ensures))
-    _ (c .before .before .before .before .before .before .if2 .left) (c .before .before .before .before .before .before .before .before .before .resolve .ensures .buffer) (c .before .before .put-components .ensures)
+returns-3 c =
+    let start = c .before .before .before .before .before .before .before .before .before .before .before .before .before .before .before .before .before .before .before .before .before .before in
+    let the-if1 = c .before .before .before .before .before .before .before .before .before .before .before .before .before .before .before .before .before .before .before .if1 in
+    let the-first-line = c .before .before .before .before .before .before .before .before .before .before .before .before .before .before .before .before .before .before .first-line in
+    let the-later-lines = c .before .before .before .before .before .before .before .before .before .before .before .before .before .before .before .before .before .later-lines in
+    let the-first-line2 = c .before .before .before .before .before .before .before .before .before .before .before .before .before .before .before .before .first-line2 in
+    let the-later-lines2 = c .before .before .before .before .before .before .before .before .before .before .before .before .before .before .before .later-lines2 in
+    let the-first-line3 = c .before .before .before .before .before .before .before .before .before .before .before .before .before .before .first-line3 in
+    let the-later-lines3 = c .before .before .before .before .before .before .before .before .before .before .before .before .before .later-lines3 in
+    let the-first-line4 = c .before .before .before .before .before .before .before .before .before .before .before .before .first-line4 in
+    let the-later-lines4 = c .before .before .before .before .before .before .before .before .before .before .before .later-lines4 in
+    let the-resolve = c .before .before .before .before .before .before .before .before .before .resolve in
+    let the-if2 = c .before .before .before .before .before .before .if2 in
+    out-accepted _ _ _ (start .pre .0) (start .pre .1) (now (start .args .input)) (replicate 65536 0) _ _ _ (length-replicate {A = ℕ} 65536 0) (the-resolve .ensures .result)
+    (input-answer _ _ _ _ _ _ _ _ _ (the-if1 .left) (the-first-line .ensures) (the-later-lines .ensures) (the-first-line2 .ensures) (the-later-lines2 .ensures)
+    (the-first-line3 .ensures) (the-later-lines3 .ensures) (the-first-line4 .ensures) (the-later-lines4 .ensures))
+    _ (the-if2 .left) (the-resolve .ensures .buffer) (c .before .before .put-components .ensures)
 
 pub run-spec : {M : Type 1} → statement M
 run-spec =
