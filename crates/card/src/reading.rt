@@ -38,7 +38,7 @@ fn nothing_found() -> Found
 }
 
 // The lengths of fourteen sections that are all that s holds.
-pub fn find_sections(s: &[u8]) -> Found
+fn find_sections(s: &[u8]) -> Found
     ensures { λ r. ⌜ r ≡ foundIn (now (s .entry)) ⌝ }
 {
     let mut lengths: [u32; 14] = [0; 14];

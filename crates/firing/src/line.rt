@@ -46,7 +46,7 @@ fn fire_value(
 }
 
 // Behind the first word of a line from `from` on; at `from` itself, if it has none.
-pub fn behind_first(s: &[u8], t: &[u8; 512], fence: usize, from: usize, line: usize) -> LineStart
+fn behind_first(s: &[u8], t: &[u8; 512], fence: usize, from: usize, line: usize) -> LineStart
     requires { ⌜ Within (now s) (now t) fence from line ⌝ }
     ensures { λ r. ⌜ BehindFirst (now (s .entry)) from line (r .at) (r .line) ⌝ }
 {

@@ -74,7 +74,7 @@ fn layouts_among(columns: [usize; 5], left: usize) -> bool
 }
 
 // Whether a heading has a column of layouts or variants.
-pub fn has_layouts(h: SetHeading) -> bool
+fn has_layouts(h: SetHeading) -> bool
     requires { ⌜ h .left ≤ 5 ⌝ }
     ensures { λ r. ⌜ r ≡ anyOf perLayout (headingBy h .columns) ⌝ }
 {

@@ -26,7 +26,7 @@ pub fn past(at: u32, n: usize) -> u32
 }
 
 // How many of n bytes from a position on the room takes.
-pub fn taken(room: usize, at: usize, n: usize) -> usize
+fn taken(room: usize, at: usize, n: usize) -> usize
     ensures { λ r. ⌜ r ≡ min n (room - at) ⌝ }
 {
     if room <= at {

@@ -1,6 +1,6 @@
 -- What is promised of every resolve, over the definitions of document 01, and at the end over what the running resolve leaves. Each proof cites a law.
 -- `answer` is the answer of a resolve; `entryAnswer` is that of the entry for C, which is lent a sheet for the lengths besides.
-use Prim.Native.Nat.{ℕ, _+_, _*_, _^_, _≤_, _<_}
+use Prim.Native.Nat.{ℕ, _+_, _*_, _/_, _%_, _^_, _≤_, _<_}
 use mathlib.Core.Path.{_≡_, sym, ap, _∙_}
 use mathlib.Core.List.{List, [], _∷_, _++_, map}
 use mathlib.Core.Bool.{true}
@@ -33,9 +33,10 @@ use Rattle.answers.proofs.Answers as laws
 use Rattle.resolver.proofs.Resolutions as resolves
 use Rattle.answers.proofs.Stretch as parts
 use Rattle.answers.proofs.AllLayouts as spellings
-use Rattle.xkbrules.specs.Sheet.{sheetLength, entryAnswer, sheetAfter, lengthsIn, componentCode}
+use Rattle.xkbrules.specs.Sheet.{sheetLength, entryAnswer, code, sheetAfter, lengthsIn, componentCode}
 use Rattle.xkbrules.proofs.Sheet as sheets
 use Rattle.xkbrules.proofs.Entry as entry
+use Rattle.xkbrules.proofs.ReadBack as packed
 
 -- Demand 1: "Every file and every profile gets an answer", every bundle and all path texts: ten texts that fit the buffer, or a refusal with a number from 1 to 15.
 pub answered : (room : ℕ) (f : Source) (t : Texts) → Answered room (answer room f t)
@@ -126,6 +127,14 @@ component-lengths = parts.stretch-lengths
 pub entry-same : (room sheet : ℕ) (f : Source) (t : Texts) → sheetLength ≤ sheet → entryAnswer room sheet f t ≡ answer room f t
 entry-same = entry.entry-same
 
+-- "and the entry returns the answer's number times 2^48 plus its place": no place is over 65,537, a line more than the longest file has bytes, and number
+-- and place can be read back.
+pub entry-read : (room sheet : ℕ) (f : Source) (t : Texts) →
+    (placeOf (entryAnswer room sheet f t) ≤ 65537) ×
+    (code (entryAnswer room sheet f t) / 2 ^ 48 ≡ numberOf (entryAnswer room sheet f t)) ×
+    (code (entryAnswer room sheet f t) % 2 ^ 48 ≡ placeOf (entryAnswer room sheet f t))
+entry-read room sheet f t = let l = packed.entry-low room sheet f t in let r = packed.code-read (entryAnswer room sheet f t) l in (l, r .0, r .1)
+
 -- With a sheet of any length, a refusal of the resolve is the answer for C,
 pub entry-refused : (room sheet : ℕ) (f : Source) (t : Texts) (r : Refusal) → answer room f t ≡ refused r → entryAnswer room sheet f t ≡ refused r
 entry-refused = entry.entry-refused
@@ -214,6 +223,11 @@ resolve-refused f t d d′ r v h = let k = resolves.kept f t d d′ r v h in (k 
 pub resolve-accepted : (f : Source) (t : Texts) (d d′ : Text) (r : Outcome) → Resolved f t d d′ r → r .number ≡ 0 →
     (r .place ≡ 0) × (textsIn d′ (r .lengths) ≡ tenTexts f t) × (drop (sum (r .lengths)) d′ ≡ drop (sum (r .lengths)) d) × (length d′ ≡ length d)
 resolve-accepted f t d d′ r v h = let k = resolves.held f t d d′ r v h in (k .place, k .texts, k .later, k .size)
+
+-- The five strings of the running resolve: the stretch of the buffer that component c has is its base and its additions.
+pub resolve-strings : (f : Source) (t : Texts) (d d′ : Text) (r : Outcome) → Resolved f t d d′ r → r .number ≡ 0 → (c : ℕ) → c ≤ 4 →
+    stretch d′ (r .lengths) c ≡ base (valuesOf c (fileFirings f (profileOf t))) ++ additions (valuesOf c (fileFirings f (profileOf t)))
+resolve-strings = resolves.strings
 
 -- Nothing is remembered between two resolves: the same bundle, texts and buffer give the same answer and the same bytes.
 pub resolve-again : (f : Source) (t : Texts) (d c′ : Text) (x : Outcome) (e′ : Text) (y : Outcome) → Resolved f t d c′ x → Resolved f t d e′ y → (x ≡ y) × (c′ ≡ e′)

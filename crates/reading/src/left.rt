@@ -27,7 +27,7 @@ fn all_or_none(m: u64, yes: bool) -> u64
 }
 
 // The layouts of m at which a word matches in a column, by its row. Columns are numbered 1 model, 2 layout, 3 variant, 4 options.
-pub fn narrow(m: u64, row: Row, c: usize) -> u64
+fn narrow(m: u64, row: Row, c: usize) -> u64
     ensures { λ r. ⌜ ((k : ℕ) → isIn k r ≡ (isIn k m && says row k (columnBy c))) ⌝ }
 {
     if c == 1 {

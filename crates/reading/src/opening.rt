@@ -12,7 +12,7 @@ use rules::SetHeading;
 use rules::judge::present_by;
 
 // A set at no layout: its rules are only judged.
-pub fn closed_set(present: Present, set: SetHeading) -> OpenSet
+fn closed_set(present: Present, set: SetHeading) -> OpenSet
     ensures { λ r. ⌜ r ≡ closedSet present set ⌝ }
 {
     OpenSet {

@@ -1,5 +1,5 @@
 -- What follows of a resolve: of its answer and of its buffer.
-use Prim.Native.Nat.{_+_, _≤_}
+use Prim.Native.Nat.{ℕ, _+_, _≤_}
 use native.Mathlib.Omega.{arith}
 use mathlib.Core.Path.{_≡_, refl, sym, ap, _∙_}
 use mathlib.Core.Bool.{true}
@@ -8,17 +8,20 @@ use lib.ListN.{length, drop, replicate, length-append, length-drop}
 use lib.Seq.{take-append-seam, drop-append-seam}
 use Rattle.text.specs.Limits.{longestTotal, mostGroups}
 use Rattle.text.specs.Bytes.{Text, allOf, apart}
-use Rattle.profile.specs.Profile.{Texts}
+use Rattle.profile.specs.Profile.{Texts, profileOf}
 use Rattle.profile.specs.Options.{Alike, Within, withOptions}
 use Rattle.rules.specs.Written.{Source}
 use Rattle.rules.specs.Names.{definesOf, namesOf}
 use Rattle.rules.specs.Joined.{unnamed, FirstJoined}
 use Rattle.answers.specs.declared.Outcome.{Outcome}
-use Rattle.answers.specs.Answer.{tenTexts, sum, joined, total, Answer, refused, accepted, answer, numberOf, placeOf, lengthsOf, outcome, bufferAfter, Answered, Resolved, textsIn}
+use Rattle.answers.specs.Answer.{tenTexts, sum, joined, total, Answer, refused, accepted, answer, numberOf, placeOf, lengthsOf, outcome, bufferAfter, Answered, Resolved, textsIn, stretch}
+use Rattle.answers.specs.Firings.{fileFirings}
+use Rattle.answers.specs.Components.{valuesOf, base, additions}
+use Rattle.answers.proofs.Accepted.{texts-at}
 use Rattle.answers.specs.Joined.{together}
 use Rattle.answers.proofs.Answers.{answered, joined-answer, options-answer}
-use Rattle.answers.proofs.Stretch.{joined-length}
-use Rattle.resolver.proofs.Resolves.{accepts}
+use Rattle.answers.proofs.Stretch.{joined-length, stretch-texts}
+use Rattle.resolver.proofs.Resolves.{accepts, lengths-accepted}
 
 -- the ten texts, read back by their lengths
 texts-back : (ts : List Text) (r : Text) → textsIn (joined ts ++ r) (map length ts) ≡ ts
@@ -105,3 +108,14 @@ pub options-resolve : (f : Source) (t : Texts) (o o′ d c′ : Text) (x : Outco
 options-resolve f t o o′ d c′ x e′ y h w w′ p q =
     let k = options-answer (length d) f t o o′ h w w′ in
     (p .result ∙ ap outcome k ∙ sym (q .result), p .buffer ∙ ap (bufferAfter d) k ∙ sym (q .buffer))
+
+-- the five strings: each component's stretch of the buffer
+pub strings : (f : Source) (t : Texts) (d d′ : Text) (r : Outcome) → Resolved f t d d′ r → r .number ≡ 0 → (c : ℕ) → c ≤ 4 →
+    stretch d′ (r .lengths) c ≡ base (valuesOf c (fileFirings f (profileOf t))) ++ additions (valuesOf c (fileFirings f (profileOf t)))
+unfolding lengthsOf
+strings f t d d′ r v h c l =
+    let a = accepts (length d) f t r (v .result) h in
+    let b : d′ ≡ bufferAfter d (accepted (tenTexts f t)) = v .buffer ∙ ap (bufferAfter d) (a .is) in
+    let n : r .lengths ≡ map length (tenTexts f t) = lengths-accepted (length d) f t r (v .result) a in
+    let p = texts-at (length d) f t (tenTexts f t) (a .is) c l in
+    rw (b, n) (stretch-texts d (tenTexts f t) c l ∙ rw (p .0, p .1) refl)

@@ -33,7 +33,7 @@ pub fn numbered(w: &[u8]) -> Index
 }
 
 // What follows `layout` or `variant`.
-pub fn index_of(w: &[u8]) -> Index
+fn index_of(w: &[u8]) -> Index
     ensures { λ r. ⌜ r ≡ indexOf (now (w .entry)) ⌝ }
 {
     if w.len() == 0 {

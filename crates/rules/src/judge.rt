@@ -86,7 +86,7 @@ pub fn rule_fault(w: &[u8], places: &[usize], count: usize, p: Present) -> usize
 }
 
 // What a heading's index asks of its rules: 2 with one of the four index words, else 1.
-pub fn form_of(i: Index) -> usize
+fn form_of(i: Index) -> usize
     ensures { λ r. ⌜ r ≡ formOf i ⌝ }
 {
     if has_word(i) {

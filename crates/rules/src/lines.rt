@@ -52,7 +52,7 @@ fn plain_after(t: Tally, w: &[u8]) -> bool
     false
 }
 
-pub fn add_word(t: Tally, w: &[u8]) -> Tally
+fn add_word(t: Tally, w: &[u8]) -> Tally
     requires { ⌜ (t .count + 1 < 2 ^ 64) × (t .first + 1 < 2 ^ 64) ⌝ }
     ensures { λ r. ⌜ r ≡ tallied t (now (w .entry)) ⌝ }
 {

@@ -35,7 +35,7 @@ pub fn wide(b: u8) -> usize
 }
 
 // The index at `at`, just after an `l` or `v`.
-pub fn which_of(w: &[u8], at: usize) -> Which
+fn which_of(w: &[u8], at: usize) -> Which
     ensures { λ r. ⌜ r ≡ whichOf (drop at (now (w .entry))) ⌝ }
 {
     let t = tail(w, at);
@@ -64,7 +64,7 @@ pub fn which_of(w: &[u8], at: usize) -> Which
 }
 
 // The variable at `at`.
-pub fn variable_of(w: &[u8], at: usize) -> Variable
+fn variable_of(w: &[u8], at: usize) -> Variable
     ensures { λ r. ⌜ r ≡ variableOf (drop at (now (w .entry))) ⌝ }
 {
     let t = tail(w, at);
@@ -77,7 +77,7 @@ pub fn variable_of(w: &[u8], at: usize) -> Variable
 }
 
 // How many bytes an index takes.
-pub fn which_length(x: Which) -> usize
+fn which_length(x: Which) -> usize
     ensures { λ r. ⌜ r ≡ whichLength x ⌝ }
 {
     match x {
@@ -89,7 +89,7 @@ pub fn which_length(x: Which) -> usize
 }
 
 // How many bytes a variable takes.
-pub fn variable_length(v: Variable) -> usize
+fn variable_length(v: Variable) -> usize
     ensures { λ r. ⌜ r ≡ variableLength v ⌝ }
 {
     match v {
@@ -101,7 +101,7 @@ pub fn variable_length(v: Variable) -> usize
 }
 
 // The item in parentheses whose variable is at `at`.
-pub fn in_parens(w: &[u8], at: usize) -> Piece
+fn in_parens(w: &[u8], at: usize) -> Piece
     ensures { λ r. ⌜ r ≡ inParens (drop at (now (w .entry))) ⌝ }
 {
     let t = tail(w, at);
@@ -144,7 +144,7 @@ pub fn piece_length(p: Piece) -> usize
 }
 
 // Whether an index is malformed, `indexed` telling whether the heading has an index word.
-pub fn bad_which(indexed: bool, x: Which) -> bool
+fn bad_which(indexed: bool, x: Which) -> bool
     ensures { λ r. ⌜ r ≡ badWhich indexed x ⌝ }
 {
     match x {
@@ -156,7 +156,7 @@ pub fn bad_which(indexed: bool, x: Which) -> bool
 }
 
 // Whether a variable is malformed: none after the percent sign, or a bad index.
-pub fn bad_variable(indexed: bool, v: Variable) -> bool
+fn bad_variable(indexed: bool, v: Variable) -> bool
     ensures { λ r. ⌜ r ≡ badVariable indexed v ⌝ }
 {
     match v {
@@ -168,7 +168,7 @@ pub fn bad_variable(indexed: bool, v: Variable) -> bool
 }
 
 // Whether an item is malformed.
-pub fn bad_piece(indexed: bool, p: Piece) -> bool
+fn bad_piece(indexed: bool, p: Piece) -> bool
     ensures { λ r. ⌜ r ≡ badPiece indexed p ⌝ }
 {
     match p {

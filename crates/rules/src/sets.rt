@@ -63,7 +63,7 @@ pub fn add(l: Listing, x: usize) -> Listing
     q
 }
 
-pub fn add_component(l: Listing, c: usize) -> Listing
+fn add_component(l: Listing, c: usize) -> Listing
     ensures { λ r. ⌜ r ≡ addedComponent l c ⌝ }
 {
     if c < 5 {
@@ -127,7 +127,7 @@ fn add_indexed(s: LeftSide, k: usize, i: Index) -> LeftSide
     }
 }
 
-pub fn add_item(s: LeftSide, x: Item) -> LeftSide
+fn add_item(s: LeftSide, x: Item) -> LeftSide
     ensures { λ r. ⌜ r ≡ withItem s x ⌝ }
 {
     match x {

@@ -5,7 +5,7 @@ ghost use Rattle.text.specs.Bytes.{first, same};
 ghost use Rattle.rules.specs.Words.{isEquals, isStar, hasDollar, ordinary, isGroupName, leftWord};
 
 // The first byte of a word, or 0.
-pub fn first_byte(w: &[u8]) -> u8
+fn first_byte(w: &[u8]) -> u8
     ensures { λ r. ⌜ r ≡ first (now (w .entry)) ⌝ }
 {
     if w.len() == 0 {
@@ -15,7 +15,7 @@ pub fn first_byte(w: &[u8]) -> u8
 }
 
 // Whether a word is one byte, and which.
-pub fn is_only(w: &[u8], b: u8) -> bool
+fn is_only(w: &[u8], b: u8) -> bool
     ensures { λ r. ⌜ r ≡ same (now (w .entry)) (b ∷ []) ⌝ }
 {
     if w.len() != 1 {
@@ -36,7 +36,7 @@ pub fn is_star(w: &[u8]) -> bool
     is_only(w, b'*')
 }
 
-pub fn has_dollar(w: &[u8]) -> bool
+fn has_dollar(w: &[u8]) -> bool
     ensures { λ r. ⌜ r ≡ hasDollar (now (w .entry)) ⌝ }
 {
     first_byte(w) == b'$'

@@ -14,7 +14,7 @@ pub fn ends_line(b: u8, c: u8) -> bool
     b == 10 || (b == 13 && c == 10)
 }
 
-pub fn class_of(b: u8, c: u8, d: u8) -> Class
+fn class_of(b: u8, c: u8, d: u8) -> Class
     ensures { λ r. ⌜ r ≡ classOf b c d ⌝ }
 {
     match b {

@@ -52,7 +52,7 @@ pub fn fence_of(s: &[u8]) -> usize
     0
 }
 
-pub fn word_end(s: &[u8], from: usize) -> usize
+fn word_end(s: &[u8], from: usize) -> usize
     requires { ⌜ from ≤ length (now s) ⌝ }
     ensures { λ r. ⌜ WordEnd (now (s .entry)) from r ⌝ }
 {
@@ -66,7 +66,7 @@ pub fn word_end(s: &[u8], from: usize) -> usize
     i
 }
 
-pub fn any_bad(s: &[u8], from: usize, end: usize) -> bool
+fn any_bad(s: &[u8], from: usize, end: usize) -> bool
     requires { ⌜ (from ≤ end) × (end ≤ length (now s)) ⌝ }
     ensures { λ r. ⌜ r ≡ anyOf badByte (part (now (s .entry)) from end) ⌝ }
 {
@@ -80,7 +80,7 @@ pub fn any_bad(s: &[u8], from: usize, end: usize) -> bool
     false
 }
 
-pub fn odd_word(s: &[u8], from: usize) -> WordAt
+fn odd_word(s: &[u8], from: usize) -> WordAt
     requires { ⌜ from < length (now s) ⌝ }
     ensures { λ r. ⌜ OddWord (now (s .entry)) from (r .end) (r .fault) ⌝ }
 {
@@ -117,14 +117,14 @@ fn run_end(s: &[u8], t: &[u8; 512], fence: usize, from: usize, most: u8) -> usiz
     }
 }
 
-pub fn plain_end(s: &[u8], t: &[u8; 512], fence: usize, from: usize) -> usize
+fn plain_end(s: &[u8], t: &[u8; 512], fence: usize, from: usize) -> usize
     requires { ⌜ (from < fence) × (Table (now t) × Fenced (now s) fence) ⌝ }
     ensures { λ r. ⌜ PlainEnd (now (s .entry)) from r × (r < fence) ⌝ }
 {
     run_end(s, t, fence, from, 1)
 }
 
-pub fn skip(s: &[u8], t: &[u8; 512], from: usize) -> usize
+fn skip(s: &[u8], t: &[u8; 512], from: usize) -> usize
     requires { ⌜ (from ≤ length (now s)) × Table (now t) ⌝ }
     ensures { λ r. ⌜ Skipped (now (s .entry)) from r ⌝ }
 {
@@ -154,7 +154,7 @@ pub fn skip_fast(s: &[u8], t: &[u8; 512], fence: usize, from: usize) -> usize
     }
 }
 
-pub fn comment_end(s: &[u8], from: usize) -> usize
+fn comment_end(s: &[u8], from: usize) -> usize
     requires { ⌜ from ≤ length (now s) ⌝ }
     ensures { λ r. ⌜ CommentEnd (now (s .entry)) from r ⌝ }
 {
@@ -208,7 +208,7 @@ fn is_pair(s: &[u8], i: usize, a: u8, b: u8) -> bool
     peek(s, i + 1) == b
 }
 
-pub fn next_slow(s: &[u8], t: &[u8; 512], from: usize, line: usize) -> Next
+fn next_slow(s: &[u8], t: &[u8; 512], from: usize, line: usize) -> Next
     requires { ⌜ (from ≤ length (now s)) × ((line ≤ from + 1) × Table (now t)) ⌝ }
     ensures { λ r. ⌜ NextWord (now (s .entry)) from line r ⌝ }
 {
@@ -259,7 +259,7 @@ fn ends_plain(s: &[u8], t: &[u8; 512], fence: usize, i: usize) -> bool
     s[i + 1] == 10
 }
 
-pub fn next_fast(s: &[u8], t: &[u8; 512], fence: usize, from: usize, line: usize) -> Fast
+fn next_fast(s: &[u8], t: &[u8; 512], fence: usize, from: usize, line: usize) -> Fast
     requires { ⌜ Within (now s) (now t) fence from line ⌝ }
     ensures { λ r. ⌜ FastWord (now (s .entry)) from line r ⌝ }
 {
@@ -503,7 +503,7 @@ fn pass_words(s: &[u8], t: &[u8; 512], fence: usize, from: usize, line: usize) -
 
 // The rest of a line passed over, from where a word would begin. Only a backslash before the first line end makes it look at words: it may join, or
 // stand in a comment.
-pub fn pass_line(s: &[u8], t: &[u8; 512], fence: usize, from: usize, line: usize) -> LineStart
+fn pass_line(s: &[u8], t: &[u8; 512], fence: usize, from: usize, line: usize) -> LineStart
     requires { ⌜ Within (now s) (now t) fence from line ⌝ }
     ensures { λ r. ⌜ Passed (now (s .entry)) from line (r .at) (r .line) ⌝ }
 {

@@ -21,7 +21,7 @@ const BEFORE_LAYOUTS: usize = 0;
 const BEFORE_VARIANTS: usize = 32;
 
 // The value of a number; the empty part where no value has it.
-pub fn value_at<'a>(text: &'a [u8], bounds: &[usize; 130], j: usize) -> &'a [u8]
+fn value_at<'a>(text: &'a [u8], bounds: &[usize; 130], j: usize) -> &'a [u8]
     requires { ⌜ Placed (now text) (now bounds) ⌝ }
     ensures { λ r. ⌜ now r ≡ valueAt (now (text .entry)) (now (bounds .entry)) j ⌝ }
 {

@@ -19,7 +19,7 @@ pub fn place(k: usize) -> usize
 }
 
 // Writes a value in parentheses, or nothing where it is empty.
-pub fn put_parens(t: &[u8], out: &mut [u8], at: u32) -> u32
+fn put_parens(t: &[u8], out: &mut [u8], at: u32) -> u32
     requires { ⌜ (length (now out) ≤ farthest) × (at ≤ farthest) ⌝ }
     ensures { λ r. ⌜ Wrote (now (out .entry)) (now (out .exit)) at (enclosed (now (t .entry))) r ⌝ }
 {
@@ -32,7 +32,7 @@ pub fn put_parens(t: &[u8], out: &mut [u8], at: u32) -> u32
 }
 
 // Writes a value after its prefix, or nothing where it is empty.
-pub fn put_prefixed(b: u8, t: &[u8], out: &mut [u8], at: u32) -> u32
+fn put_prefixed(b: u8, t: &[u8], out: &mut [u8], at: u32) -> u32
     requires { ⌜ (length (now out) ≤ farthest) × (at ≤ farthest) ⌝ }
     ensures { λ r. ⌜ Wrote (now (out .entry)) (now (out .exit)) at (prefixed b (now (t .entry))) r ⌝ }
 {

@@ -4,3 +4,4 @@ pub mod Entry
 pub mod Ways
 pub mod CardWays
 pub mod Desk
+pub mod ReadBack
