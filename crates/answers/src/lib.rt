@@ -1,4 +1,5 @@
 // What the answer of a resolve is, and one component of it.
+#![tactic(auto)]
 
 pub mod components;
 

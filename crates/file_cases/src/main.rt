@@ -1,4 +1,5 @@
 // A file resolved for the empty profile, over many files: standard input holds them with a line `====` between two. Then on files of 65,536 and 65,537 blanks.
+#![tactic(auto)]
 ghost use Rattle.std.specs.Prelude.{◌≡◌};
 ghost use Rattle.file_cases.specs.Cases.{starts, separates, CaseEnd};
 

@@ -1,4 +1,5 @@
 // The values of rules, fired into ten regions of one lent buffer.
+#![tactic(auto)]
 
 pub mod line;
 pub mod stage;

@@ -1,4 +1,5 @@
 // A line of a rules file, judged as it is read.
+#![tactic(auto)]
 
 pub mod group;
 pub mod ranges;

@@ -1,1 +1,2 @@
 // The promises: statements and proofs only.
+#![tactic(auto)]

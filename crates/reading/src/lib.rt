@@ -1,4 +1,5 @@
 // One reading of a file: each line is judged, and where its set still wants a layout, matched and fired.
+#![tactic(auto)]
 
 pub mod file;
 pub mod heading;

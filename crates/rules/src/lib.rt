@@ -1,4 +1,5 @@
 // What the lines of a rules file are: the types that its definitions and its readers share.
+#![tactic(auto)]
 
 pub mod headings;
 pub mod judge;

@@ -1,4 +1,5 @@
 // The bytes of a rules file as lines and words: the types that its definitions and its readers share.
+#![tactic(auto)]
 
 pub mod bytes;
 pub mod compare;

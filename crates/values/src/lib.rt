@@ -1,4 +1,5 @@
 // Right-hand values, expanded for a profile and a layout.
+#![tactic(auto)]
 
 pub mod expand;
 pub mod fill;

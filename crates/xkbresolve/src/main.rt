@@ -1,4 +1,5 @@
 // Resolves a profile of four lines for the rules that follow them on standard input, and prints the five component strings or the refusal.
+#![tactic(auto)]
 ghost use Rattle.std.specs.Prelude.{◌≡◌, ◌≤◌, length, take};
 ghost use Rattle.io.specs.Counts.{IsPrefixLen};
 ghost use Rattle.output.specs.Store.{farthest};
