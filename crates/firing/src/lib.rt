@@ -10,7 +10,7 @@ pub const LONGEST_TOTAL: u32 = 1048576;
 
 // The next free position of each of ten regions of the buffer (base and additions of component 0, of component 1, ..), which bases are set, and how far all
 // positions together have moved.
-#[derive(Drop)]
+#[derive(Clone, Copy)]
 pub struct Cursors {
     pub at: [u32; 10],
     pub based: [bool; 5],
@@ -18,14 +18,14 @@ pub struct Cursors {
 }
 
 // Where each of ten texts starts that stand one after the other, and where the last ends.
-#[derive(Drop)]
+#[derive(Clone, Copy)]
 pub struct Sums {
     pub at: [u32; 10],
     pub total: u32,
 }
 
 // The right side of a set's rules at a layout: the components, which are `count`, the layout count n and the matched layout k.
-#[derive(Drop)]
+#[derive(Clone, Copy)]
 pub struct RightSide {
     pub count: usize,
     pub components: [usize; 5],

@@ -11,7 +11,7 @@ use rules::SetHeading;
 
 // A line that may be a rule. `Read`: it is no heading and nothing of it is refused; its words stand from `from` on, in the physical line `line`, and the next line
 // starts at `next` and has the number `after`. `Heading`: its words stand from `from` on, behind the `!`. Else its refusal.
-#[derive(Drop)]
+#[derive(Clone, Copy)]
 pub enum RuleLine {
     Read {
         from: usize,
@@ -27,7 +27,7 @@ pub enum RuleLine {
 }
 
 // The refusal of a line, or 0, and where the next line starts.
-#[derive(Drop)]
+#[derive(Clone, Copy)]
 pub struct Judged {
     pub fault: usize,
     pub next: usize,
@@ -35,14 +35,14 @@ pub struct Judged {
 }
 
 // The heading of a set, or the line's refusal; `set` is then empty: `no_set` of specs/Sets.antt.
-#[derive(Drop)]
+#[derive(Clone, Copy)]
 pub struct SetJudged {
     pub fault: usize,
     pub set: SetHeading,
 }
 
 // The same, with the start of the next line and its number.
-#[derive(Drop)]
+#[derive(Clone, Copy)]
 pub struct SetLine {
     pub fault: usize,
     pub set: SetHeading,
@@ -51,7 +51,7 @@ pub struct SetLine {
 }
 
 // The first word of a heading, with its refusal, or 0. `dollar`: it begins with `$`; else the other fields say nothing.
-#[derive(Drop)]
+#[derive(Clone, Copy)]
 pub struct FirstWord {
     pub dollar: bool,
     pub start: usize,
@@ -61,7 +61,7 @@ pub struct FirstWord {
 }
 
 // A group's words: the lowest refusal of a word, or 0; whether all are ordinary; the union of their rows; and where the next line starts.
-#[derive(Drop)]
+#[derive(Clone, Copy)]
 pub struct Members {
     pub fault: usize,
     pub ordinary: bool,
@@ -71,7 +71,7 @@ pub struct Members {
 }
 
 // A group line: its refusal, or 0, the row of its words, and where the next line starts.
-#[derive(Drop)]
+#[derive(Clone, Copy)]
 pub struct GroupLine {
     pub fault: usize,
     pub row: Row,
@@ -80,7 +80,7 @@ pub struct GroupLine {
 }
 
 // Layouts by their numbers: `count` of them, from `first` on.
-#[derive(Drop)]
+#[derive(Clone, Copy)]
 pub struct Range {
     pub first: usize,
     pub count: usize,

@@ -1,5 +1,6 @@
 // Texts written into a lent buffer: a byte behind the buffer's end is counted and not stored, so that a text is measured where it has no room.
 #![tactic(auto)]
+
 ghost use Rattle.std.specs.Prelude.{◌≡◌, ◌+◌, ◌-◌, ◌^◌, ◌≤◌, ◌<◌, min, length};
 ghost use Rattle.text.specs.Bytes.{part};
 ghost use Rattle.output.specs.Store.{stored, past as past_of, Wrote};

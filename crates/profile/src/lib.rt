@@ -1,5 +1,6 @@
 // The four texts of a profile: refusals 1 and 2, and the fields of a text.
 #![tactic(auto)]
+
 ghost use Rattle.std.specs.Prelude.{◌≡◌};
 ghost use Rattle.text.specs.Refusals.{first_refusal};
 ghost use Rattle.profile.specs.Profile.{texts_of};

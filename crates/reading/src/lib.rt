@@ -15,7 +15,7 @@ use rules::{Present, SetHeading};
 
 // A set that is being read: what its rules are held to, its heading, its layouts, `count` of them from `first` on, whether each matching rule fires, and the
 // layouts that still want a rule. Where there is no set, `count` is 0.
-#[derive(Drop)]
+#[derive(Clone, Copy)]
 pub struct OpenSet {
     pub present: Present,
     pub set: SetHeading,
@@ -26,7 +26,7 @@ pub struct OpenSet {
 }
 
 // The layouts at which the left words so far match, where the last of them ends, and the physical line there.
-#[derive(Drop)]
+#[derive(Clone, Copy)]
 pub struct LeftWords {
     pub layouts: u64,
     pub at: usize,
@@ -35,7 +35,7 @@ pub struct LeftWords {
 
 // How far a walk over the rules of a set has come: to a rule that matches, at which layouts, where its line goes on behind its left words, and where the next line
 // starts; to a heading, where its line starts and its words begin; to a line that is refused; or to the end of the file.
-#[derive(Drop)]
+#[derive(Clone, Copy)]
 pub enum Sought {
     Rule {
         place: usize,
@@ -57,7 +57,7 @@ pub enum Sought {
 }
 
 // What stays the same over a reading: where the fence stands in the file, and the layout count.
-#[derive(Drop)]
+#[derive(Clone, Copy)]
 pub struct Setting {
     pub fence: usize,
     pub n: usize,
@@ -65,7 +65,7 @@ pub struct Setting {
 
 // How far a reading has come: the start of the next line and its number; the used bytes of the names' text, the names and the groups so far; the set that is being
 // read and the places of its kept rules; what is written; the refusal of that line, or 0; and whether there is more to read.
-#[derive(Drop)]
+#[derive(Clone, Copy)]
 pub struct Reading {
     pub at: usize,
     pub line: usize,
@@ -80,7 +80,7 @@ pub struct Reading {
 }
 
 // A file read: the number and the line of its first refusal, or number 0, and what is written.
-#[derive(Drop)]
+#[derive(Clone, Copy)]
 pub struct FileRead {
     pub number: usize,
     pub place: usize,

@@ -10,7 +10,7 @@ pub mod sets;
 pub mod words;
 
 // A left column of a set.
-#[derive(Drop)]
+#[derive(Clone, Copy)]
 pub enum Column {
     Model,
     Layout,
@@ -19,7 +19,7 @@ pub enum Column {
 }
 
 // The index of a layout or variant item of a heading; `Wrong` is none of document 01's.
-#[derive(Drop)]
+#[derive(Clone, Copy)]
 pub enum Index {
     Absent,
     Single,
@@ -31,7 +31,7 @@ pub enum Index {
 }
 
 // A left item of a heading.
-#[derive(Drop)]
+#[derive(Clone, Copy)]
 pub enum Item {
     Model,
     Layout(Index),
@@ -41,7 +41,7 @@ pub enum Item {
 }
 
 // Which layout or variant a percent item takes: the only one, that of the matched layout, or one by its number. `Wrong` is a `[` that opens no index.
-#[derive(Drop)]
+#[derive(Clone, Copy)]
 pub enum Which {
     Alone,
     Matched,
@@ -50,7 +50,7 @@ pub enum Which {
 }
 
 // What a percent item stands for.
-#[derive(Drop)]
+#[derive(Clone, Copy)]
 pub enum Variable {
     Model,
     Layout(Which),
@@ -59,7 +59,7 @@ pub enum Variable {
 }
 
 // A piece of a right-hand value: a byte as it stands, or what follows a percent sign. `Unclosed` is a parenthesis that does not close.
-#[derive(Drop)]
+#[derive(Clone, Copy)]
 pub enum Piece {
     Byte(u8),
     Number,
@@ -71,7 +71,7 @@ pub enum Piece {
 
 // What is counted of a line's words as they are read: all of them; those before the first `=`; whether it was met, and another after it; whether all
 // from the third on are ordinary.
-#[derive(Drop)]
+#[derive(Clone, Copy)]
 pub struct Tally {
     pub count: usize,
     pub first: usize,
@@ -81,7 +81,7 @@ pub struct Tally {
 }
 
 // A line, split: its tally, the lowest refusal of its words or 0, the start of the next line and that line's number.
-#[derive(Drop)]
+#[derive(Clone, Copy)]
 pub struct Split {
     pub tally: Tally,
     pub fault: usize,
@@ -91,7 +91,7 @@ pub struct Split {
 
 // What a rule is held to by the heading before it: the numbers of its left and right words, and the heading's form: 0 there is none, 1 a set's, 2 a
 // set's with one of the four index words, under which `%i` may stand.
-#[derive(Drop)]
+#[derive(Clone, Copy)]
 pub struct Present {
     pub form: usize,
     pub left: usize,
@@ -106,7 +106,7 @@ pub const NO_HEADING: Present = Present {
 };
 
 // Numbers kept in order; `good` as long as none is repeated and there are at most five.
-#[derive(Drop)]
+#[derive(Clone, Copy)]
 pub struct Listing {
     pub good: bool,
     pub count: usize,
@@ -115,7 +115,7 @@ pub struct Listing {
 
 // The left items of a heading as they are read: whether each is known and the indexes are alike, the columns by their numbers, whether an index was
 // met, and the first one.
-#[derive(Drop)]
+#[derive(Clone, Copy)]
 pub struct LeftSide {
     pub good: bool,
     pub columns: Listing,
@@ -124,7 +124,7 @@ pub struct LeftSide {
 }
 
 // The heading of a set: its columns by their numbers, its index, its components by theirs. `left` and `right` count them.
-#[derive(Drop)]
+#[derive(Clone, Copy)]
 pub struct SetHeading {
     pub good: bool,
     pub left: usize,

@@ -7,7 +7,7 @@ pub mod reader;
 pub mod table;
 
 // What a byte other than LF means, by itself and the byte after it.
-#[derive(Drop)]
+#[derive(Clone, Copy)]
 pub enum Class {
     Blank,
     Join,
@@ -18,7 +18,7 @@ pub enum Class {
 
 // Where in a line a byte stands: before the first non-blank byte, where a word would begin, in a word, in a comment; and at the LF that a
 // joining backslash makes a blank, before the first non-blank byte or later.
-#[derive(Drop)]
+#[derive(Clone, Copy)]
 pub enum Place {
     Start,
     Space,
@@ -29,20 +29,20 @@ pub enum Place {
 }
 
 // A refusal: a number of document 01, and the place that goes with it.
-#[derive(Drop)]
+#[derive(Clone, Copy)]
 pub struct Refusal {
     pub number: usize,
     pub place: usize,
 }
 
-#[derive(Drop)]
+#[derive(Clone, Copy)]
 pub struct WordAt {
     pub end: usize,
     pub fault: usize,
 }
 
 // The next word of a line, with the number of the physical line that it stands in and its refusal; or the start of the next line, and its number.
-#[derive(Drop)]
+#[derive(Clone, Copy)]
 pub enum Next {
     Found {
         start: usize,
@@ -57,7 +57,7 @@ pub enum Next {
 }
 
 // What the reader before the fence makes out: a word that is plain; the line's end; or the place from which any reader has to go on.
-#[derive(Drop)]
+#[derive(Clone, Copy)]
 pub enum Fast {
     Word {
         start: usize,
@@ -75,13 +75,13 @@ pub enum Fast {
 }
 
 // A word before the fence that is plain, with only blanks before it; or anything else, for a reader that takes all.
-#[derive(Drop)]
+#[derive(Clone, Copy)]
 pub enum Plain {
     Word { start: usize, end: usize },
     Other,
 }
 
-#[derive(Drop)]
+#[derive(Clone, Copy)]
 pub struct Opening {
     pub heading: bool,
     pub at: usize,
@@ -89,7 +89,7 @@ pub struct Opening {
 }
 
 // Where a line starts, and its number.
-#[derive(Drop)]
+#[derive(Clone, Copy)]
 pub struct LineStart {
     pub at: usize,
     pub line: usize,
