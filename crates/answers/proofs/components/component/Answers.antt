@@ -1,5 +1,6 @@
 use mathlib.Core.Path.{sym}
 use Rattle.answers.proofs.Stretch.{stretch_number, too_long_lem, in_order, within, read_out}
+use native.Mathlib.Omega.{arith}
 use Rattle.answers.proofs.components.component.Goals as goal
 
 pub returns-then-c-gt4 : goal.returns-then-c-gt4

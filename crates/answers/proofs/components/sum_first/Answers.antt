@@ -3,7 +3,7 @@ use Rattle.answers.proofs.Stretch.{sum_none, sum_next, sum_all, sum_beyond}
 use Rattle.answers.proofs.components.sum_first.Goals as goal
 
 pub loop-i-init : goal.loop-i-init
-loop-i-init c = (omega arith, omega arith, sum_none c.args.t1, omega arith)
+loop-i-init c = (omega arith, omega arith, sum_none c.args.lengths, omega arith)
 
 pub returns-then-n-i : goal.returns-then-n-i
 returns-then-n-i c = sum_all _ _ _ _ c.loop-i.invariant.2 c.loop-i.invariant.1 c.if-n-i.true
