@@ -1,0 +1,17 @@
+use Rattle.judging.proofs.RuleLines.{read_rest, read-words, words-refused}
+use Rattle.judging.proofs.rule.rule_line.Goals as goal
+
+pub returns-then-o : goal.returns-then-o
+returns-then-o c = rw c.if-o.true at c.open_plain-o.ensures
+
+pub returns-then-e-ne0 : goal.returns-then-e-ne0
+returns-then-e-ne0 c =
+    read_rest _ _ _ _ _ _ _ c.requires.1 c.open_plain-o.ensures c.if-o.false _ (c.rest_end-e.ensures c.if-e-ne0.true)
+
+pub returns-then-j-ne0 : goal.returns-then-j-ne0
+returns-then-j-ne0 c =
+    words-refused _ _ _ _ _ _ _ c.requires.1 c.open_plain-o.ensures c.if-o.false _ c.judge_words-j.ensures c.if-j-ne0.true
+
+pub returns : goal.returns
+returns c =
+    read-words _ _ _ _ _ _ _ c.requires.1 c.open_plain-o.ensures c.if-o.false _ c.judge_words-j.ensures c.if-j-ne0.false
