@@ -1,0 +1,22 @@
+-- `reading::keep::keep_rule`: the places up to k are kept, those above are as they were.
+use borrow.Author.Rules.{rules}
+use native.Mathlib.Omega.{arith}
+use mathlib.Core.Path.{sym, ◌∙◌}
+use Rattle.reading.proofs.Keeps.{noted_start, noted-hit, noted-miss, noted-end}
+use Rattle.reading.proofs.keep.keep_rule.Goals as goal
+
+-- src/keep.rt:24:5
+pub loop-k-init : goal.loop-k-init
+loop-k-init c = (search rules, search rules, noted_start _ _ _ _ (search rules))
+
+-- src/keep.rt:24:5
+pub loop-k-preserved-then-contains : goal.loop-k-preserved-then-contains
+loop-k-preserved-then-contains c = (search rules, search rules, noted-hit _ _ _ _ _ _ c.loop-k.invariant.2 (omega arith) (sym c.contains.ensures ∙ c.if-contains.true))
+
+-- src/keep.rt:24:5
+pub loop-k-preserved : goal.loop-k-preserved
+loop-k-preserved c = (search rules, search rules, noted-miss _ _ _ _ _ _ c.loop-k.invariant.2 (sym c.contains.ensures ∙ c.if-contains.false))
+
+-- src/keep.rt:18:1
+pub returns : goal.returns
+returns c = noted-end _ _ _ _ _ _ c.loop-k.invariant.2 _ c.loop-k-test.false
