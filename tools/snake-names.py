@@ -1,7 +1,7 @@
 #!/usr/bin/env python3
 """Brings the names of definitions and lemmas in crates/*/specs and crates/*/proofs to snake case, once.
 
-Functions of src/, exported names, strings, inputs and outputs keep their names. usage: tools/snake-names.py [--dry]
+Functions of src/, exported names, strings, inputs and outputs keep their names. usage: tools/snake-names.py [--dry] [--again]; --again: over a tree in which the names of OTHER were turned already
 Names that would fall together with another name of the same place get the spelling of OTHER below.
 """
 
@@ -21,8 +21,10 @@ OTHER = {
     "in-word": "in_word_lem",
     "ranked-at": "ranked_at_lem",
 }
+if "--again" in sys.argv:
+    OTHER = {a: b for a, b in OTHER.items() if "-" in a or a != a.lower()}
 TOKEN = re.compile(r"[^\s(){}\[\].,;:λ∀∃→×⊎`\"|]+")
-SIGN = re.compile(r"^( {0,2})(?:(?:unfoldable|abbrev|pub) )*([^\s:(){}.]+)(?: \{[^}]*\})?(?: \([^)]*\))* : ")
+SIGN = re.compile(r"^( *)(?:(?:unfoldable|abbrev|pub) )*([^\s:(){}.]+)(?: \{[^}]*\})?(?: \([^)]*\))* :(?: |$)")
 RECORD = re.compile(r"^(?:pub )?record ")
 FIELD = re.compile(r"^  (?:pub )?([^\s:(){}.]+)(?: [^\s:(){}.]+)* : ")
 
@@ -36,7 +38,7 @@ def files(ends):
 
 
 def of_function(path):
-    return path.endswith("Proof.antt")
+    return path.endswith(("Proof.antt", "Answers.antt", "Invariants.antt"))
 
 
 def snake(name):
@@ -147,13 +149,13 @@ def main():
     both = {n for n in names if n in theirs}
     print("names of the kit too, left:", sorted(both))
     names -= both
+    everywhere = set().union(*where.values())
     for n in sorted(names):
-        if "-" in n and n not in OTHER and any(m != n and "-" not in m and snake(m) == snake(n) for m in names):
+        if "-" in n and n not in OTHER and (any(m != n and "-" not in m and snake(m) == snake(n) for m in names) or snake(n) in everywhere):
             OTHER[n] = snake(n) + "_lem"
     to = collections.defaultdict(set)
     for n in names:
         to[snake(n)].add(n)
-    everywhere = set().union(*where.values())
     for p, ns in where.items():
         here = collections.defaultdict(set)
         for n in ns:
