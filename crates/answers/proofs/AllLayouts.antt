@@ -267,52 +267,52 @@ module _ (look : Text → Words) (p : Profile) (c d : ℕ) (e : Entry) where
 
   module _ (r : Rule) (s : Plain e.text) where
     module _ (q : r.text ≡ all_rule e) where
-      all-match : rule_matches look p 0 (column.Options ∷ []) r.text ≡ column_matches look p 0 column.Options e.option
+      all_match : rule_matches look p 0 (column.Options ∷ []) r.text ≡ column_matches look p 0 column.Options e.option
       unfolding rule_matches
-      all-match = rw q (and-true (column_matches look p 0 column.Options e.option))
+      all_match = rw q (and-true (column_matches look p 0 column.Options e.option))
 
       all_right : right_words (all_heading c) r.text ≡ (43 ∷ (e.text ++ (58 ∷ 97 ∷ 108 ∷ 108 ∷ []))) ∷ []
       unfolding right_words bytes
       all_right = rw q
 
-      all-adds : Adds d (concat_map (fires_of look p (all_heading c) r) (0 ∷ [])) added
+      all_adds : Adds d (concat_map (fires_of look p (all_heading c) r) (0 ∷ [])) added
       unfolding concat_map
-      all-adds =
+      all_adds =
           rw append-nil
           (adds_sole d _ (column_matches look p 0 column.Options e.option && eqb c d) (copies (layout_count p) 1 (43 ∷ e.text)) (copies_addition (layout_count p) e.text)
-          (ap (λ (m : Bool). values_of d (cond m (fires_at p (all_heading c) r 0) [])) all-match
+          (ap (λ (m : Bool). values_of d (cond m (fires_at p (all_heading c) r 0) [])) all_match
           ∙ values_if p (all_heading c) r 0 c d _ _ refl all_right (expanded_all p e.text s 0) (column_matches look p 0 column.Options e.option)))
 
     module _ (n : NoneEmpty p) (q : r.text ≡ any_rule e) where
-      any-match : (k : ℕ) → not (empty (get_or p.layouts (k - 1) [])) ≡ true →
+      any_match : (k : ℕ) → not (empty (get_or p.layouts (k - 1) [])) ≡ true →
           rule_matches look p k (column.Layout ∷ column.Options ∷ []) r.text ≡ column_matches look p 0 column.Options e.option
       unfolding rule_matches
-      any-match k h =
+      any_match k h =
           rw (q, star_layout look p k, h, options_anywhere look p k e.option) (and-true (column_matches look p 0 column.Options e.option))
 
-      any-right : right_words (any_heading c) r.text ≡ (43 ∷ (e.text ++ (58 ∷ 37 ∷ 105 ∷ []))) ∷ []
+      any_right : right_words (any_heading c) r.text ≡ (43 ∷ (e.text ++ (58 ∷ 37 ∷ 105 ∷ []))) ∷ []
       unfolding right_words bytes
-      any-right = rw q
+      any_right = rw q
 
-      any-add : (k : ℕ) → 1 ≤ k → k ≤ layout_count p →
+      any_add : (k : ℕ) → 1 ≤ k → k ≤ layout_count p →
           Adds d (fires_of look p (any_heading c) r k) (cond (column_matches look p 0 column.Options e.option && eqb c d) (copy k (43 ∷ e.text)) [])
       unfolding layout_count
-      any-add k l h =
+      any_add k l h =
           adds_sole d _ (column_matches look p 0 column.Options e.option && eqb c d) (copy k (43 ∷ e.text)) (copy_addition k e.text)
-          (ap (λ (m : Bool). values_of d (cond m (fires_at p (any_heading c) r k) [])) (any-match k (layout_at p.layouts (k - 1) n.layouts (omega arith)))
-          ∙ values_if p (any_heading c) r k c d _ _ refl any-right (expanded_number p e.text s k (omega (arith, n.few))) (column_matches look p 0 column.Options e.option))
+          (ap (λ (m : Bool). values_of d (cond m (fires_at p (any_heading c) r k) [])) (any_match k (layout_at p.layouts (k - 1) n.layouts (omega arith)))
+          ∙ values_if p (any_heading c) r k c d _ _ refl any_right (expanded_number p e.text s k (omega (arith, n.few))) (column_matches look p 0 column.Options e.option))
 
-      any-more : (j k : ℕ) → 1 ≤ k → k + j ≤ layout_count p + 1 →
+      any_more : (j k : ℕ) → 1 ≤ k → k + j ≤ layout_count p + 1 →
           Adds d (concat_map (fires_of look p (any_heading c) r) (up_from j k))
           (cond (column_matches look p 0 column.Options e.option && eqb c d) (copies j k (43 ∷ e.text)) [])
       unfolding up_from concat_map copies
-      any-more zero k l h = rw (same_arms (column_matches look p 0 column.Options e.option && eqb c d)) (adds_none d)
-      any-more (suc j) k l h =
+      any_more zero k l h = rw (same_arms (column_matches look p 0 column.Options e.option && eqb c d)) (adds_none d)
+      any_more (suc j) k l h =
           rw (← append_arms (column_matches look p 0 column.Options e.option && eqb c d) (copy k (43 ∷ e.text)) (copies j (k + 1) (43 ∷ e.text)))
-          (adds_append d _ _ _ _ (any-add k l (omega arith)) (any-more j (k + 1) (omega arith) (omega arith)))
+          (adds_append d _ _ _ _ (any_add k l (omega arith)) (any_more j (k + 1) (omega arith) (omega arith)))
 
-      any-adds : Adds d (concat_map (fires_of look p (any_heading c) r) (up_from (layout_count p) 1)) added
-      any-adds = any-more (layout_count p) 1 (omega arith) (omega arith)
+      any_adds : Adds d (concat_map (fires_of look p (any_heading c) r) (up_from (layout_count p) 1)) added
+      any_adds = any_more (layout_count p) 1 (omega arith) (omega arith)
 
 -- rule by rule
 
@@ -322,7 +322,7 @@ module _ (look : Text → Words) (p : Profile) (c d : ℕ) where
   all_rules [] [] s = adds_none d
   all_rules [] (r ∷ rs) s = absurd s
   all_rules (e ∷ es) [] s = absurd s
-  all_rules (e ∷ es) (r ∷ rs) s = adds_append d _ _ _ _ (all-adds look p c d e r s.0 s.1) (all_rules es rs s.2)
+  all_rules (e ∷ es) (r ∷ rs) s = adds_append d _ _ _ _ (all_adds look p c d e r s.0 s.1) (all_rules es rs s.2)
 
   any_rules : NoneEmpty p → (es : List Entry) (rs : List Rule) → Spelled any_rule es rs →
       Adds d (rule_by_rule look p (any_heading c) (up_from (layout_count p) 1) rs) (concat_map (added look p c d) es)
@@ -330,7 +330,7 @@ module _ (look : Text → Words) (p : Profile) (c d : ℕ) where
   any_rules n [] [] s = adds_none d
   any_rules n [] (r ∷ rs) s = absurd s
   any_rules n (e ∷ es) [] s = absurd s
-  any_rules n (e ∷ es) (r ∷ rs) s = adds_append d _ _ _ _ (any-adds look p c d e r s.0 n s.1) (any_rules n es rs s.2)
+  any_rules n (e ∷ es) (r ∷ rs) s = adds_append d _ _ _ _ (any_adds look p c d e r s.0 n s.1) (any_rules n es rs s.2)
 
 -- a set's firings, by its heading
 all_set : (gs : Groups) (p : Profile) (c : ℕ) (rs : List Rule) → head_fires gs p (applies (all_heading c)) rs ≡ rule_by_rule (members gs) p (all_heading c) (0 ∷ []) rs
@@ -370,8 +370,8 @@ module _ (gs : Groups) (p : Profile) (c d : ℕ) (es : List Entry) (rs rs' : Lis
       rw (all_set, any_set)
       (base_signed _ (all_rules (members gs) p c d es rs s).signs ∙ sym (base_signed _ (any_rules (members gs) p c d n es rs' s').signs))
 
-  pub spelled-additions :
+  pub spelled_additions :
       additions (values_of d (head_fires gs p (applies (all_heading c)) rs)) ≡ additions (values_of d (head_fires gs p (applies (any_heading c)) rs'))
-  spelled-additions =
+  spelled_additions =
       rw (all_set, any_set)
       ((all_rules (members gs) p c d es rs s).text ∙ sym (any_rules (members gs) p c d n es rs' s').text)

@@ -40,14 +40,14 @@ module _ (s : Text) (ns : List ℕ) (v : Sectioned s ns) (k : ℕ) (l : k < sect
   some_lengths = ap length same_lengths ∙ length-map (sections_in section_count s) length ∙ section_count_lem section_count s
 
   module _ (a e : ℕ) (start : a ≡ start_at ns k) (end : e ≡ start_at ns (k + 1)) where
-    pub text-bounds : (a + 2 ≤ e) × (e ≤ length s)
-    text-bounds =
+    pub text_bounds : (a + 2 ≤ e) × (e ≤ length s)
+    text_bounds =
         let i : start_at ns (k + 1) ≤ length s = rw same_lengths (start_inside section_count (k + 1) s v.whole (omega arith)) in
         (omega (arith, start_more ns k (get_or ns k 0) (omega (arith, some_lengths)) refl), omega (arith, i))
 
-    pub text-found : take (e - (a + 2)) (drop (a + 2) s) ≡ get_or (texts_on s) k []
+    pub text_found : take (e - (a + 2)) (drop (a + 2) s) ≡ get_or (texts_on s) k []
     unfolding texts_on part
-    text-found = sym (section_at section_count k s v.whole l ∙ rw (← same_lengths, ← start, ← end) refl)
+    text_found = sym (section_at section_count k s v.whole l ∙ rw (← same_lengths, ← start, ← end) refl)
 
 -- `check_profile`
 pub profile_of_lem : (m l v o : Text) (ts : List Text) → m ≡ get_or ts 0 [] → l ≡ get_or ts 1 [] → v ≡ get_or ts 2 [] → o ≡ get_or ts 3 [] → texts_of m l v o ≡ card_profile ts
@@ -83,15 +83,15 @@ module _ (s : Text) where
   judge_broken f r e h g = g ∙ rw (judged_bad (rw (found_not (broken section_count s) refl f e h)))
 
   module _ (ns : List ℕ) (v : Sectioned s ns) (p : Refusal) (e : p ≡ first_refusal (profile_refusals (card_profile (texts_on s)))) where
-    pub judge-beyond : (r : CardRead) → (p.number ≡ 0 → ⊥) → r ≡ record { number = 16; lengths = replicate section_count 0 } → r ≡ read_of (judged s)
+    pub judge_beyond : (r : CardRead) → (p.number ≡ 0 → ⊥) → r ≡ record { number = 16; lengths = replicate section_count 0 } → r ≡ read_of (judged s)
     unfolding read_of number_of card_lengths beyond
-    judge-beyond r h g =
+    judge_beyond r h g =
         let b : beyond (texts_on s) ≡ true = rw (unempty (card_profile (texts_on s)) p e h) in
         g ∙ rw (judged_bad (or_right (broken section_count s) (beyond (texts_on s)) b))
 
-    pub judge-good : p.number ≡ 0 → record { number = 0; lengths = ns } ≡ read_of (judged s)
+    pub judge_good : p.number ≡ 0 → record { number = 0; lengths = ns } ≡ read_of (judged s)
     unfolding read_of number_of card_lengths beyond empty
-    judge-good h =
+    judge_good h =
         let b : beyond (texts_on s) ≡ false = rw (unrefused (card_profile (texts_on s)) p e h) in
         rw (judged_good (rw (v.whole, b)), v.lengths)
 
@@ -149,22 +149,22 @@ module _ (s : Text) (c : CardRead) (e : c ≡ read_of (judged s)) where
       absurd (h (ap (λ (q : CardRead). q.number) g))
 
   module _ (d : Text) where
-    pub way-bad : (c.number ≡ 0 → ⊥) → Reads s d d c
+    pub way_bad : (c.number ≡ 0 → ⊥) → Reads s d d c
     unfolding read_of number_of card_lengths buffer_after
-    way-bad h =
+    way_bad h =
         let z = not_good (broken section_count s || beyond (texts_on s)) refl h in
         record { result = e ∙ rw (judged_bad s z, read_bad (length d) s z) refl; buffer = rw (read_bad (length d) s z) }
 
-    pub way-short : (r : CardRead) → c.number ≡ 0 → length d < length s - 28 → r ≡ record { number = 11; lengths = replicate section_count 0 } → Reads s d d r
+    pub way_short : (r : CardRead) → c.number ≡ 0 → length d < length s - 28 → r ≡ record { number = 11; lengths = replicate section_count 0 } → Reads s d d r
     unfolding read_of number_of card_lengths buffer_after
-    way-short r h k g =
+    way_short r h k g =
         let v = good h in
         let z = read_short (length d) s v.clear (omega (arith, v.size)) in
         record { result = g ∙ rw z; buffer = rw z }
 
-    pub way-read : (d' : Text) → c.number ≡ 0 → length s - 28 ≤ length d → d' ≡ buffer_after d (accepted (texts_on s)) → Reads s d d' c
+    pub way_read : (d' : Text) → c.number ≡ 0 → length s - 28 ≤ length d → d' ≡ buffer_after d (accepted (texts_on s)) → Reads s d d' c
     unfolding read_of number_of card_lengths
-    way-read d' h k g =
+    way_read d' h k g =
         let v = good h in
         let z = read_whole (length d) s v.clear (omega (arith, v.size)) in
         record { result = v.read ∙ rw z; buffer = g ∙ rw z }

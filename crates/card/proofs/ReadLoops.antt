@@ -72,8 +72,8 @@ module _ (s : Text) where
       one_more = omega arith
 
       -- the section is cut short
-      pub finding-cut : (r : Found) → length s - at < 2 + section_length (drop at s) → r ≡ record { broken = true; lengths = replicate section_count 0 } → r ≡ found_in s
-      finding-cut r h e = found_broken r (v.rest ∙ rw (one_more, broken_cons, cut_at s at h)) e
+      pub finding_cut : (r : Found) → length s - at < 2 + section_length (drop at s) → r ≡ record { broken = true; lengths = replicate section_count 0 } → r ≡ found_in s
+      finding_cut r h e = found_broken r (v.rest ∙ rw (one_more, broken_cons, cut_at s at h)) e
 
       -- it is there
       pub finding_more : (n : ℕ) → n ≡ section_length (drop at s) → 2 + n ≤ length s - at → Finding s (set ns i n) (at + (2 + n)) (i + 1)
@@ -94,13 +94,13 @@ module _ (s : Text) where
       none_more = omega arith
 
       -- something stands behind the last
-      pub finding-left : (r : Found) → at < length s → r ≡ record { broken = true; lengths = replicate section_count 0 } → r ≡ found_in s
+      pub finding_left : (r : Found) → at < length s → r ≡ record { broken = true; lengths = replicate section_count 0 } → r ≡ found_in s
       unfolding broken
-      finding-left r h e = found_broken r (v.rest ∙ rw (none_more, empty_some (drop at s) (λ z. omega (arith, length-drop at s)))) e
+      finding_left r h e = found_broken r (v.rest ∙ rw (none_more, empty_some (drop at s) (λ z. omega (arith, length-drop at s)))) e
 
-      pub finding-end : (r : Found) → length s ≤ at → r ≡ record { broken = false; lengths = ns } → r ≡ found_in s
+      pub finding_end : (r : Found) → length s ≤ at → r ≡ record { broken = false; lengths = ns } → r ≡ found_in s
       unfolding found_in broken empty texts_on sections_in
-      finding-end r h e =
+      finding_end r h e =
           let b : broken section_count s ≡ false = v.rest ∙ rw (none_more, drop_of_length-le s h) in
           let g : map length (sections_in section_count s) ≡ ns =
           v.found ∙ rw (none_more) (append-nil (take i ns)) ∙ take_all i ns (omega (arith, v.size)) in
@@ -150,34 +150,34 @@ module _ (s : Text) (ns : List ℕ) (d₀ : Text) where
       unbroken : (cut_short (drop at s) ≡ false) × (broken m (behind_section (drop at s)) ≡ false)
       unbroken = unbroken_first m (drop at s) (rw one_left at v.whole)
 
-      lengths-left : drop i ns ≡ length (take (section_length (drop at s)) (drop 2 (drop at s))) ∷ map length (sections_in m (behind_section (drop at s)))
-      lengths-left = v.lengths ∙ rw (one_left, sections_cons)
+      lengths_left : drop i ns ≡ length (take (section_length (drop at s)) (drop 2 (drop at s))) ∷ map length (sections_in m (behind_section (drop at s)))
+      lengths_left = v.lengths ∙ rw (one_left, sections_cons)
 
-      next-length : (n ≡ section_length (drop at s)) × (drop (i + 1) ns ≡ map length (sections_in m (behind_section (drop at s))))
-      next-length =
-          let h : i < length ns = omega (arith, length-drop i ns, ap length lengths-left) in
-          let w = cons_both (sym (drop_at ns i h) ∙ lengths-left) in
+      next_length : (n ≡ section_length (drop at s)) × (drop (i + 1) ns ≡ map length (sections_in m (behind_section (drop at s))))
+      next_length =
+          let h : i < length ns = omega (arith, length-drop i ns, ap length lengths_left) in
+          let w = cons_both (sym (drop_at ns i h) ∙ lengths_left) in
           (e ∙ w.0 ∙ text_length (drop at s) unbroken.0, w.1)
 
-      behind-next : behind_section (drop at s) ≡ drop (at + 2 + n) s
-      behind-next =
-          let z : at + (2 + section_length (drop at s)) ≡ at + 2 + n = omega (arith, next-length.0) in
+      behind_next : behind_section (drop at s) ≡ drop (at + 2 + n) s
+      behind_next =
+          let z : at + (2 + section_length (drop at s)) ≡ at + 2 + n = omega (arith, next_length.0) in
           behind_at s at ∙ ap (λ k. drop k s) z
 
-      text-next : take (section_length (drop at s)) (drop 2 (drop at s)) ≡ part s (at + 2) (at + 2 + n)
-      text-next = rw (← next-length.0) (text_at s at n)
+      text_next : take (section_length (drop at s)) (drop 2 (drop at s)) ≡ part s (at + 2) (at + 2 + n)
+      text_next = rw (← next_length.0) (text_at s at n)
 
-      pub copying-there : at + 2 + n ≤ length s
-      copying-there = omega (arith, whole_length (drop at s) unbroken.0, length-drop at s, next-length.0)
+      pub copying_there : at + 2 + n ≤ length s
+      copying_there = omega (arith, whole_length (drop at s) unbroken.0, length-drop at s, next_length.0)
 
       part_length : length (part s (at + 2) (at + 2 + n)) ≡ n
-      part_length = length_part s (at + 2) (at + 2 + n) copying-there ∙ omega arith
+      part_length = length_part s (at + 2) (at + 2 + n) copying_there ∙ omega arith
 
       room_next : o + (n + total (sections_in m (drop (at + 2 + n) s))) ≤ length d₀
-      room_next = rw (one_left, sections_cons, total_cons, text-next, behind-next, part_length) at v.room
+      room_next = rw (one_left, sections_cons, total_cons, text_next, behind_next, part_length) at v.room
 
-      pub copying-room : n ≤ length d - o
-      copying-room = omega (arith, room_next, v.size)
+      pub copying_room : n ≤ length d - o
+      copying_room = omega (arith, room_next, v.size)
 
       pub copying_more : (d' : Text) → d' ≡ stored d o (part s (at + 2) (at + 2 + n)) → Copying s ns d₀ d' (at + 2 + n) (o + n) (i + 1)
       copying_more d' g =
@@ -185,10 +185,10 @@ module _ (s : Text) (ns : List ℕ) (d₀ : Text) where
             few = omega arith;
             size = ap length g ∙ length_stored d o (part s (at + 2) (at + 2 + n)) ∙ v.size;
             fits = v.fits;
-            whole = rw (← behind-next) unbroken.1;
-            lengths = rw (← behind-next) next-length.1;
+            whole = rw (← behind_next) unbroken.1;
+            lengths = rw (← behind_next) next_length.1;
             room = omega (arith, room_next);
-            bytes = v.bytes ∙ rw (one_left, sections_cons, text-next, behind-next, joined_cons, stored_append, part_length, ← g) refl;
+            bytes = v.bytes ∙ rw (one_left, sections_cons, text_next, behind_next, joined_cons, stored_append, part_length, ← g) refl;
           }
 
     pub copying_end : section_count ≤ i → d ≡ buffer_after d₀ (accepted (texts_on s))

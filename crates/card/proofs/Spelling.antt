@@ -20,7 +20,7 @@ use Rattle.card.specs.Writing.{lent_texts, long_section, unwritable, write_refus
 use Rattle.card.specs.Reading.{texts_on, beyond, card_refusals, read_refusals, read_answer}
 use Rattle.card.proofs.Format.{sections_back, unbroken_back, card_back, sections_short, section_count_lem}
 use Rattle.card.proofs.Limits.{limited, lengths_in_lem, texts_count, texts_total, sum_short}
-use Rattle.card.proofs.Written.{answer-written}
+use Rattle.card.proofs.Written.{answer_written}
 use Rattle.card.proofs.Judged.{read_whole}
 
 pub profile_back : (t : Texts) (us : List Text) → card_profile (card_texts t us) ≡ t
@@ -91,13 +91,13 @@ module _ (room : ℕ) (t : Texts) (x : Text) (ns : List ℕ) (ts : List Text) (h
     pub whole_back : broken section_count (card_of ts) ≡ false
     whole_back = ap (λ n. broken n (card_of ts)) (sym count) ∙ unbroken_back ts (rw written_texts lent_short)
 
-    within-back : beyond (texts_on (card_of ts)) ≡ false
+    within_back : beyond (texts_on (card_of ts)) ≡ false
     unfolding beyond empty lent_texts
-    within-back = rw (texts_back, written_texts, profile_back t (texts_in x ns), written_profile)
+    within_back = rw (texts_back, written_texts, profile_back t (texts_in x ns), written_profile)
 
     pub read_back : (room' : ℕ) → total ts ≤ room' → read_answer room' (card_of ts) ≡ accepted ts
     read_back room' k =
-        read_whole room' (card_of ts) (rw (whole_back, within-back)) (rw texts_back k) ∙ ap accepted texts_back
+        read_whole room' (card_of ts) (rw (whole_back, within_back)) (rw texts_back k) ∙ ap accepted texts_back
 
 -- the ten texts behind a profile are short where all are
 ten_short : (t : Texts) (us : List Text) → any_of long_section (map length (card_texts t us)) ≡ false → any_of long_section (map length us) ≡ false
@@ -135,9 +135,9 @@ module _ (room : ℕ) (s : Text) (ts : List Text) (h : read_answer room s ≡ ac
     unfolding texts_on
     spelled_so = rw read_texts_lem (card_back section_count s b sound.0)
 
-    sections-so : any_of long_section (map length ts) ≡ false
+    sections_so : any_of long_section (map length ts) ≡ false
     unfolding texts_on
-    sections-so = rw read_texts_lem (sections_short section_count s b sound.0)
+    sections_so = rw read_texts_lem (sections_short section_count s b sound.0)
 
     -- "every accepted card is the one that writing would give"
     module _ (t : Texts) (x : Text) (ns : List ℕ) (e : lent_texts t x ns ≡ ts) (l : sum ns ≤ length x) (room' : ℕ) (k : length s ≤ room') where
@@ -145,19 +145,19 @@ module _ (room : ℕ) (s : Text) (ts : List Text) (h : read_answer room s ≡ ac
       unfolding lent_texts
       clear = ap profile_refusals (sym (profile_back t (texts_in x ns)) ∙ ap card_profile e) ∙ read_profile_lem
 
-      able-short : any_of long_section ns ≡ false
+      able_short : any_of long_section ns ≡ false
       unfolding lent_texts
-      able-short = ap (any_of long_section) (sym (lengths_in_lem x ns l)) ∙ ten_short t (texts_in x ns) (ap (λ us. any_of long_section (map length us)) e ∙ sections-so)
+      able_short = ap (any_of long_section) (sym (lengths_in_lem x ns l)) ∙ ten_short t (texts_in x ns) (ap (λ us. any_of long_section (map length us)) e ∙ sections_so)
 
-      able-room : length (card_of (lent_texts t x ns)) ≤ room'
-      able-room = omega (arith, ap (λ us. length (card_of us)) e, ap length spelled_so)
+      able_room : length (card_of (lent_texts t x ns)) ≤ room'
+      able_room = omega (arith, ap (λ us. length (card_of us)) e, ap length spelled_so)
 
-      able-so : unwritable room' t x ns ≡ false
+      able_so : unwritable room' t x ns ≡ false
       unfolding unwritable
-      able-so = rw (able-short, le-ltb (length x) (sum ns) l, le-ltb room' (length (card_of (lent_texts t x ns))) able-room)
+      able_so = rw (able_short, le-ltb (length x) (sum ns) l, le-ltb room' (length (card_of (lent_texts t x ns))) able_room)
 
       pub written_so : write_answer room' t x ns ≡ accepted ts
-      written_so = answer-written room' t x ns clear able-so ∙ ap accepted e
+      written_so = answer_written room' t x ns clear able_so ∙ ap accepted e
 
 -- "each card still has one spelling"
 pub one_spelling : (room room' : ℕ) (s s' : Text) (ts : List Text) → Bytes s → Bytes s' → read_answer room s ≡ accepted ts → read_answer room' s' ≡ accepted ts → s ≡ s'
@@ -202,4 +202,4 @@ module _ (room : ℕ) (s : Text) (ts : List Text) (h : read_answer room s ≡ ac
   unfolding total
   read_short_sum b =
       let k : length (map length ts) ≡ section_count = length-map ts length ∙ read_count in
-      omega (arith, k, sum_short (map length ts) (sections-so room s ts h b))
+      omega (arith, k, sum_short (map length ts) (sections_so room s ts h b))

@@ -89,35 +89,35 @@ module _ (x : Text) (ns : List ℕ) (d₀ : Text) (at : ℕ) where
 
   module _ (d : Text) (from o i : ℕ) (v : Putting x ns d₀ at d from o i) where
     module _ (l : i < length ns) (n : ℕ) (e : n ≡ get_or ns i 0) where
-      put-short : (n ≤ longest_section) × (any_of long_section (drop (i + 1) ns) ≡ false)
+      put_short : (n ≤ longest_section) × (any_of long_section (drop (i + 1) ns) ≡ false)
       unfolding any_of long_section
-      put-short =
+      put_short =
           let q : ltb longest_section n || any_of long_section (drop (i + 1) ns) ≡ false = rw (drop_at ns i l, ← e) at v.short in
           let w = neither (ltb longest_section n) (any_of long_section (drop (i + 1) ns)) q in
           (ltb-false longest_section n w.0, w.1)
 
       -- there is room for one section more
-      pub putting-room : (from + n ≤ length x) × (n ≤ longest_section) × (o + (2 + n) ≤ length d)
-      putting-room =
-          (omega (arith, v.high, sum_left ns i n l e), put-short.0, omega (arith, v.room, v.size, sum_left ns i n l e))
+      pub putting_room : (from + n ≤ length x) × (n ≤ longest_section) × (o + (2 + n) ≤ length d)
+      putting_room =
+          (omega (arith, v.high, sum_left ns i n l e), put_short.0, omega (arith, v.room, v.size, sum_left ns i n l e))
 
-      pub putting-more : (d' : Text) (o' : ℕ) → d' ≡ stored d o (section (part x from (from + n))) → o' ≡ o + (2 + n) →
+      pub putting_more : (d' : Text) (o' : ℕ) → d' ≡ stored d o (section (part x from (from + n))) → o' ≡ o + (2 + n) →
           Putting x ns d₀ at d' (from + n) o' (i + 1)
-      putting-more d' o' g p =
-          let a = putting-room in
+      putting_more d' o' g p =
+          let a = putting_room in
           let k : length (part x from (from + n)) ≡ n = length_part x from (from + n) a.0 ∙ omega arith in
           let z : o + length (section (part x from (from + n))) ≡ o' = omega (arith, section_length_lem (part x from (from + n))) in
           record {
             size = ap length g ∙ length_stored d o (section (part x from (from + n))) ∙ v.size;
-            short = put-short.1;
+            short = put_short.1;
             high = omega (arith, v.high, sum_left ns i n l e);
             room = omega (arith, v.room, sum_left ns i n l e);
             bytes = v.bytes ∙ rw (texts_left x ns from i n l e, card_cons, stored_append, z, ← g) refl;
           }
 
-    pub putting-end : length ns ≤ i → d ≡ stored d₀ at (card_of (texts_in x ns))
+    pub putting_end : length ns ≤ i → d ≡ stored d₀ at (card_of (texts_in x ns))
     unfolding texts_in card_of concat_map
-    putting-end h = sym (v.bytes ∙ rw (drop_of_length-le ns h) (stored_none d o))
+    putting_end h = sym (v.bytes ∙ rw (drop_of_length-le ns h) (stored_none d o))
 
 part_whole : (t : Text) → part t 0 (length t) ≡ t
 unfolding part

@@ -42,13 +42,13 @@ module _ (room : ℕ) (t : Texts) (x : Text) (ns : List ℕ) where
   answer_profile p e h = some_refusal (profile_refusals t) _ (lent_texts t x ns) (unempty t p e h) ∙ ap refused (sym e)
 
   module _ (clear : profile_refusals t ≡ []) where
-    pub answer-unwritable : unwritable room t x ns ≡ true → write_answer room t x ns ≡ refused (record { number = 11; place = 0 })
+    pub answer_unwritable : unwritable room t x ns ≡ true → write_answer room t x ns ≡ refused (record { number = 11; place = 0 })
     unfolding write_answer write_refusals refused_if first_of
-    answer-unwritable h = rw (clear, h)
+    answer_unwritable h = rw (clear, h)
 
-    pub answer-written : unwritable room t x ns ≡ false → write_answer room t x ns ≡ accepted (lent_texts t x ns)
+    pub answer_written : unwritable room t x ns ≡ false → write_answer room t x ns ≡ accepted (lent_texts t x ns)
     unfolding write_answer write_refusals refused_if first_of
-    answer-written h = rw (clear, h)
+    answer_written h = rw (clear, h)
 
   -- a refusal's number and place
   pub write_numbered : (p : Refusal) → write_answer room t x ns ≡ refused p → Numbered p
@@ -73,22 +73,22 @@ module _ (ns : List ℕ) (n : ℕ) (ten : length ns ≡ 10) (summed : n ≡ sum 
   sum_inside x h = omega (arith, whole_sum)
 
   module _ (room : ℕ) (t : Texts) (x : Text) where
-    pub no-texts : length x < n → unwritable room t x ns ≡ true
+    pub no_texts : length x < n → unwritable room t x ns ≡ true
     unfolding unwritable
-    no-texts h = or_right (any_of long_section ns) _ (rw (lt-ltb (length x) (sum ns) (omega (arith, whole_sum))))
+    no_texts h = or_right (any_of long_section ns) _ (rw (lt-ltb (length x) (sum ns) (omega (arith, whole_sum))))
 
     module _ (size : ℕ) (sized : size ≡ 28 + (length t.model + length t.layouts + length t.variants + length t.options) + n) (inside : n ≤ length x) where
-      pub lent-size : size ≡ length (card_of (lent_texts t x ns))
-      lent-size = omega (arith, whole_sum, lent_length t x ns ten (sum_inside x inside))
+      pub lent_size : size ≡ length (card_of (lent_texts t x ns))
+      lent_size = omega (arith, whole_sum, lent_length t x ns ten (sum_inside x inside))
 
       pub no_room : room < size → unwritable room t x ns ≡ true
       unfolding unwritable
-      no_room h = or_right (any_of long_section ns) _ (or_right (ltb (length x) (sum ns)) _ (lt-ltb room _ (omega (arith, lent-size))))
+      no_room h = or_right (any_of long_section ns) _ (or_right (ltb (length x) (sum ns)) _ (lt-ltb room _ (omega (arith, lent_size))))
 
       pub writable : (b : Bool) → b ≡ any_of long_section ns → b ≡ false → size ≤ room → unwritable room t x ns ≡ false
       unfolding unwritable
       writable b e h l =
-          rw (← e, h, le-ltb (length x) (sum ns) (sum_inside x inside), le-ltb room (length (card_of (lent_texts t x ns))) (omega (arith, lent-size)))
+          rw (← e, h, le-ltb (length x) (sum ns) (sum_inside x inside), le-ltb room (length (card_of (lent_texts t x ns))) (omega (arith, lent_size)))
 
 -- room for the ten texts behind the four
 pub ten_room : (room : ℕ) (t : Texts) (ns : List ℕ) (n at size : ℕ) → n ≡ sum ns →

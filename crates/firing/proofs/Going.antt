@@ -104,9 +104,9 @@ module _ (c : ℕ) (v d : Text) (q : Cursors) where
           }
 
   module _ (room : q.total ≤ longest_total) where
-    pub fire-over : 4 < c → FiredOne d d q q c v
+    pub fire_over : 4 < c → FiredOne d d q q c v
     unfolding fire_cur fire_buf put_cur put_buf
-    fire-over h = go (empty v) refl
+    fire_over h = go (empty v) refl
       where
         z : ltb c 5 ≡ false
         z = le-ltb c 5 (omega arith)
@@ -123,28 +123,28 @@ module _ (c : ℕ) (v d : Text) (q : Cursors) where
       z : ltb c 5 ≡ true
       z = lt-ltb c 5 (omega arith)
 
-      pub fire-add : (r : ℕ) (s : Bool) → r ≡ cond s (2 * c + 1) (2 * c) → s ≡ true → (d' : Text) (q' : Cursors) → signed v ≡ true → PutAt d d' q q' r v →
+      pub fire_add : (r : ℕ) (s : Bool) → r ≡ cond s (2 * c + 1) (2 * c) → s ≡ true → (d' : Text) (q' : Cursors) → signed v ≡ true → PutAt d d' q q' r v →
           FiredOne d d' q q' c v
       unfolding fire_cur fire_buf put_cur put_buf
-      fire-add r s n t d' q' g x =
+      fire_add r s n t d' q' g x =
           let w : PutAt d d' q q' (2 * c + 1) v = rw (n, t) at x in
           record {
             bytes = λ l k. w.bytes ∙ rw (one_fires l k c v e, run_buf_lem, not_full q room, z, g, run_buf_nil);
             places = λ l k. w.places ∙ rw (one_fires l k c v e, run_cur_lem, not_full q room, z, g, run_cur_nil);
           }
 
-      pub fire-skip : signed v ≡ false → get_or q.based c false ≡ true → FiredOne d d q q c v
+      pub fire_skip : signed v ≡ false → get_or q.based c false ≡ true → FiredOne d d q q c v
       unfolding fire_cur fire_buf put_cur put_buf
-      fire-skip g b =
+      fire_skip g b =
           record {
             bytes = λ l k. rw (one_fires l k c v e, run_buf_lem, not_full q room, z, g, b, run_buf_nil);
             places = λ l k. rw (one_fires l k c v e, run_cur_lem, not_full q room, z, g, b, run_cur_nil);
           }
 
-      pub fire-base : (r : ℕ) (s : Bool) → r ≡ cond s (2 * c + 1) (2 * c) → s ≡ false → (d' : Text) (q' : Cursors) → signed v ≡ false → get_or q.based c false ≡ false →
+      pub fire_base : (r : ℕ) (s : Bool) → r ≡ cond s (2 * c + 1) (2 * c) → s ≡ false → (d' : Text) (q' : Cursors) → signed v ≡ false → get_or q.based c false ≡ false →
           PutAt d d' q q' r v → FiredOne d d' q (based_at c q') c v
       unfolding fire_cur fire_buf put_cur put_buf
-      fire-base r s n t d' q' g b x =
+      fire_base r s n t d' q' g b x =
           let w : PutAt d d' q q' (2 * c) v = rw (n, t) at x in
           record {
             bytes = λ l k. w.bytes ∙ rw (one_fires l k c v e, run_buf_lem, not_full q room, z, g, b, run_buf_nil);

@@ -116,30 +116,30 @@ module _ (fs : List Firing) (ps es : List ℕ) (ten : length ps ≡ 10) (near : 
     most : sum ns ≤ total (texts_from 0 5 fs)
     most = omega (arith, told, rw (texts_left fs) at (moved_most fs (starting_at ps) ten refl (near_low ps near)))
 
-    pub low-lengths : Low ns
-    low-lengths = rw (are, is) (low_between ps (run_cur (starting_at ps) fs).at walked.low)
+    pub low_lengths : Low ns
+    low_lengths = rw (are, is) (low_between ps (run_cur (starting_at ps) fs).at walked.low)
 
-    lengths-fit : sum ns ≤ longest_total → ns ≡ map length (texts_from 0 5 fs)
+    lengths_fit : sum ns ≤ longest_total → ns ≡ map length (texts_from 0 5 fs)
     unfolding counted
-    lengths-fit h =
+    lengths_fit h =
         let e : es ≡ grown ps (texts_from 0 5 fs) = is ∙ measured fs (starting_at ps) ten refl (near_low ps near) (omega (arith, told)) ∙ rw (texts_left fs) refl in
         let c : ns ≡ counted ps (texts_from 0 5 fs) = are ∙ ap (between ps) e in
         c ∙ counted_fit ps (texts_from 0 5 fs) near size (rw c at h)
 
-    room-when : (room : ℕ) (t : Bool) → ltb longest_total (sum ns) ≡ t → no_room room (sum ns) ≡ no_room room (total (texts_from 0 5 fs))
+    room_when : (room : ℕ) (t : Bool) → ltb longest_total (sum ns) ≡ t → no_room room (sum ns) ≡ no_room room (total (texts_from 0 5 fs))
     unfolding no_room total
-    room-when room false e = rw (lengths-fit (ltb-false longest_total (sum ns) e))
-    room-when room true e =
+    room_when room false e = rw (lengths_fit (ltb-false longest_total (sum ns) e))
+    room_when room true e =
         let b = lt-ltb longest_total (total (texts_from 0 5 fs)) (omega (arith, ltb-true longest_total (sum ns) e, most)) in
         or_right (ltb room (sum ns)) _ e ∙ sym (or_right (ltb room (total (texts_from 0 5 fs))) _ b)
 
     -- Counting alone decides whether there is room: no room for the lengths as they are counted is no room for the texts.
-    pub room-counted : (room n : ℕ) → n ≡ sum ns → no_room room n ≡ no_room room (total (texts_from 0 5 fs))
-    room-counted room n h = rw h (room-when room _ refl)
+    pub room_counted : (room n : ℕ) → n ≡ sum ns → no_room room n ≡ no_room room (total (texts_from 0 5 fs))
+    room_counted room n h = rw h (room_when room _ refl)
 
-    pub lengths-counted : (room n : ℕ) → n ≡ sum ns → no_room room n ≡ false → ns ≡ map length (texts_from 0 5 fs)
+    pub lengths_counted : (room n : ℕ) → n ≡ sum ns → no_room room n ≡ false → ns ≡ map length (texts_from 0 5 fs)
     unfolding no_room
-    lengths-counted room n h k = lengths-fit (omega (arith, h, ltb-false longest_total n (neither (ltb room n) (ltb longest_total n) k).1))
+    lengths_counted room n h k = lengths_fit (omega (arith, h, ltb-false longest_total n (neither (ltb room n) (ltb longest_total n) k).1))
 
 -- The ten texts written at the start of a buffer that has room for them; what is behind them is as it was.
 module _ (fs : List Firing) (d : Text) (fits : total (texts_from 0 5 fs) ≤ length d) (low : total (texts_from 0 5 fs) ≤ longest_total) where

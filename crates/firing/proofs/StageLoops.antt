@@ -108,11 +108,11 @@ module _ (s : Text) (ns : List ℕ) (d₀ : Text) where
   copying_none = record { size = refl; region = omega arith; room = omega arith; bytes = refl }
 
   module _ (d : Text) (start at i : ℕ) (v : Copying s ns d₀ d start at i) where
-    pub copying-inside : in_regions ns ≡ true → length ns * region_size ≤ length s → i < length ns → start + get_or ns i 0 ≤ length s
-    copying-inside h m l = omega (arith, in_at ns i h l, v.region)
+    pub copying_inside : in_regions ns ≡ true → length ns * region_size ≤ length s → i < length ns → start + get_or ns i 0 ≤ length s
+    copying_inside h m l = omega (arith, in_at ns i h l, v.region)
 
-    pub copying-room : sum ns ≤ length d₀ → i < length ns → get_or ns i 0 ≤ length d - at
-    copying-room h l = omega (arith, sum_more ns i l, v.size, v.room)
+    pub copying_room : sum ns ≤ length d₀ → i < length ns → get_or ns i 0 ≤ length d - at
+    copying_room h l = omega (arith, sum_more ns i l, v.size, v.room)
 
     pub copying_more : (d' : Text) (n : ℕ) → i < length ns → n ≡ get_or ns i 0 → start + n ≤ length s → d' ≡ stored d at (part s start (start + n)) →
         Copying s ns d₀ d' (start + region_size) (at + n) (i + 1)

@@ -75,14 +75,14 @@ module _ (p : Profile) (s : Text) (from n : ℕ) (d₀ : Text) (q₀ : Cursors) 
 
   module _ (d : Text) (q : Cursors) (i m j : ℕ) (v : WordsGoing d q i m j) where
     module _ (a e l f : ℕ) (w : FoundWord s i m a e l f) where
-      word-short : ShortWords (part s a e ∷ left s e)
-      word-short = rw w.text at v.short
+      word_short : ShortWords (part s a e ∷ left s e)
+      word_short = rw w.text at v.short
 
       pub word_fits : length (part s a e) ≤ 256
-      word_fits = word_room (part s a e ∷ left s e) 0 word-short (omega arith)
+      word_fits = word_room (part s a e ∷ left s e) 0 word_short (omega arith)
 
-      pub words-few : length (left s from) ≤ 5 → j < 5
-      words-few h = omega (arith, v.count, ap length w.text)
+      pub words_few : length (left s from) ≤ 5 → j < 5
+      words_few h = omega (arith, v.count, ap length w.text)
 
       pub words_more : length cs ≡ 5 → length (left s from) ≤ 5 → (d' : Text) (q' : Cursors) → FiredOne d d' q q' (get_or cs j 0) (expanded p k (part s a e)) →
           WordsGoing d' q' e l (j + 1)
@@ -90,26 +90,26 @@ module _ (p : Profile) (s : Text) (from n : ℕ) (d₀ : Text) (q₀ : Cursors) 
           record {
             passing = passing_word s from n i m v.passing a e l f w;
             count = omega (arith, v.count, ap length w.text);
-            short = short_rest (part s a e) (left s e) word-short;
+            short = short_rest (part s a e) (left s e) word_short;
             going = λ x.
-                let c : j < length cs = omega (arith, words-few h) in
+                let c : j < length cs = omega (arith, words_few h) in
                 let y : rule_fires p x k (drop j cs) (left s i) ≡ fired x k (get_or cs j 0) (expanded p k (part s a e)) ++ rule_fires p x k (drop (j + 1) cs) (left s e) =
                 rw (drop_get cs 0 j c, w.text, fires_cons) in
                 going_more d₀ q₀ _ d q _ _ d' q' (rw y at (v.going x)) (g.bytes x k) (g.places x k);
           }
 
-    fired-all : left s i ≡ [] → FiredRule p d₀ d q₀ q k cs (left s from)
-    fired-all none = record { bytes = λ x. (over x).0; places = λ x. (over x).1 }
+    fired_all : left s i ≡ [] → FiredRule p d₀ d q₀ q k cs (left s from)
+    fired_all none = record { bytes = λ x. (over x).0; places = λ x. (over x).1 }
       where
         over : (x : ℕ) → (d ≡ run_buf d₀ q₀ (rule_fires p x k cs (left s from))) × (q ≡ run_cur q₀ (rule_fires p x k cs (left s from)))
         over x = going_end d₀ q₀ _ d q (rw (none, fires_none p x k (drop j cs)) at (v.going x))
 
     -- all words have fired
-    pub words-fired : length (left s from) ≤ j → FiredRule p d₀ d q₀ q k cs (left s from)
-    words-fired h = let z : length (left s i) ≤ 0 = omega (arith, v.count) in fired-all (drop_of_length-le (left s i) z)
+    pub words_fired : length (left s from) ≤ j → FiredRule p d₀ d q₀ q k cs (left s from)
+    words_fired h = let z : length (left s i) ≤ 0 = omega (arith, v.count) in fired_all (drop_of_length-le (left s i) z)
 
-    pub words-none : (r l : ℕ) → NoWord s i m r l → FiredRule p d₀ d q₀ q k cs (left s from)
-    words-none r l w = fired-all w.none
+    pub words_none : (r l : ℕ) → NoWord s i m r l → FiredRule p d₀ d q₀ q k cs (left s from)
+    words_none r l w = fired_all w.none
 
 -- behind the first word of a line
 
@@ -121,18 +121,18 @@ module _ (s : Text) (from n : ℕ) where
   behind_none a b r l w = record { low = omega arith; high = a; few = b; text = rw w.none refl; onto = refl }
 
   module _ (i m : ℕ) (v : BehindFirst s from n i m) where
-    pub behind-count : (c : ℕ) → length (left s from) ≡ 1 + c → length (left s i) ≡ c
-    behind-count c h = ap length v.text ∙ (length-drop 1 (left s from) ∙ omega arith)
+    pub behind_count : (c : ℕ) → length (left s from) ≡ 1 + c → length (left s i) ≡ c
+    behind_count c h = ap length v.text ∙ (length-drop 1 (left s from) ∙ omega arith)
 
     pub behind_short : ShortWords (left s from) → ShortWords (left s i)
     behind_short h = rw v.text (any_drop too_long 1 (left s from) h)
 
-    pub behind-right : (c : ℕ) → RightWords (drop 1 (left s from)) c → RightWords (left s i) c
-    behind-right c h = rw v.text h
+    pub behind_right : (c : ℕ) → RightWords (drop 1 (left s from)) c → RightWords (left s i) c
+    behind_right c h = rw v.text h
 
-    pub behind-rule : (p : Profile) (cs : List ℕ) (d d' : Text) (q q' : Cursors) (k : ℕ) → FiredRule p d d' q q' k cs (left s i) →
+    pub behind_rule : (p : Profile) (cs : List ℕ) (d d' : Text) (q q' : Cursors) (k : ℕ) → FiredRule p d d' q q' k cs (left s i) →
         FiredRule p d d' q q' k cs (drop 1 (left s from))
-    behind-rule p cs d d' q q' k f = rw v.text at f
+    behind_rule p cs d d' q q' k f = rw v.text at f
 
 -- a rule fires the same with any profile that has the same values
 

@@ -148,30 +148,30 @@ module _ (s : Text) (x : FirstWord) (w : DollarWord s x) (d : Text) (t rows : Li
       }
 
   module _ (a e l f : ℕ) (u : FoundWord s x.end x.line a e l f) (ms : Members) (v : MembersOf s e l d t rows flags count ms) where
-    members-are : members_in s x ≡ left s e
-    members-are = rw u.text refl
+    members_are : members_in s x ≡ left s e
+    members_are = rw u.text refl
 
-    fault-is : lower (lower x.fault f) ms.fault ≡ words_fault (part s x.start x.end ∷ part s a e ∷ left s e)
-    fault-is =
+    fault_is : lower (lower x.fault f) ms.fault ≡ words_fault (part s x.start x.end ∷ part s a e ∷ left s e)
+    fault_is =
         sym (fault_cons (part s x.start x.end) (part s a e ∷ left s e)
         ∙ rw (fault_cons (part s a e) (left s e), ← w.fault, ← u.fault, ← v.fault) (lower_assoc x.fault f ms.fault))
 
     line_is : (g : Bool) → g ≡ (is_group_name (part s x.start x.end) && (is_equals (part s a e) && ms.ordinary)) → entry_of (line_of 0 true (line_words s x)) ≡
         cond (eqb (lower (lower x.fault f) ms.fault) 0) (cond g (group (rest (part s x.start x.end)) (left s e)) (wrong 6)) (wrong (lower (lower x.fault f) ms.fault))
-    line_is g h = rw (u.text, fault-is, h, v.ordinary) (some_line (part s x.start x.end) (part s a e) (left s e) w.yes)
+    line_is g h = rw (u.text, fault_is, h, v.ordinary) (some_line (part s x.start x.end) (part s a e) (left s e) w.yes)
 
-    pub group-some : (g : Bool) (r : ℕ) → g ≡ (is_group_name (part s x.start x.end) && (is_equals (part s a e) && ms.ordinary)) →
+    pub group_some : (g : Bool) (r : ℕ) → g ≡ (is_group_name (part s x.start x.end) && (is_equals (part s a e) && ms.ordinary)) →
         r ≡ group_fault (lower (lower x.fault f) ms.fault) g →
         GroupLineOf s x d t rows flags count (record { fault = r; row = ms.row; next = ms.next; after = ms.after })
-    group-some g r h k =
+    group_some g r h k =
         let y = told _ g _ (group (rest (part s x.start x.end)) (left s e)) r (line_is g h) k in
-        let j : Joined d t rows flags count (members_in s x) ms.row = rw members-are v.joined in
+        let j : Joined d t rows flags count (members_in s x) ms.row = rw members_are v.joined in
         let p = v.passed in
         record {
           wrong = y.wrong_is;
           right = λ z.
               let c = (and_both (is_equals (part s a e)) ms.ordinary (and_both (is_group_name (part s x.start x.end)) _ (sym h ∙ (y.right_is z).1)).1).1 in
-              (rw members-are (y.right_is z).0, rw members-are (sym v.ordinary ∙ c), j);
+              (rw members_are (y.right_is z).0, rw members_are (sym v.ordinary ∙ c), j);
           joined = j;
           onto = u.onto ∙ p.onto;
           on = omega (arith, u.low, u.some, u.high, p.onwards);

@@ -140,17 +140,17 @@ module _ (n : ℕ) (i : Index) where
   at_wrong e = rw e (up_none 1)
 
   module _ (k : ℕ) (e : i ≡ index.Numbered k) where
-    pub at-number : 1 < n → k ≤ n → up_from 1 k ≡ layouts_at n i
+    pub at_number : 1 < n → k ≤ n → up_from 1 k ≡ layouts_at n i
     unfolding layouts_at
-    at-number h l = rw (e, lt-ltb 1 n h, le-leb k n l) (up_one k)
+    at_number h l = rw (e, lt-ltb 1 n h, le-leb k n l) (up_one k)
 
-    pub at-lone : n ≤ 1 → up_from 0 k ≡ layouts_at n i
+    pub at_lone : n ≤ 1 → up_from 0 k ≡ layouts_at n i
     unfolding layouts_at
-    at-lone h = rw (e, le-ltb 1 n h) (up_none k)
+    at_lone h = rw (e, le-ltb 1 n h) (up_none k)
 
-    pub at-beyond : 1 < n → n < k → up_from 0 k ≡ layouts_at n i
+    pub at_beyond : 1 < n → n < k → up_from 0 k ≡ layouts_at n i
     unfolding layouts_at
-    at-beyond h l = rw (e, lt-ltb 1 n h, lt-leb k n l) (up_none k)
+    at_beyond h l = rw (e, lt-ltb 1 n h, lt-leb k n l) (up_none k)
 
 -- the layouts of a heading
 

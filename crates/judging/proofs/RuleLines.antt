@@ -15,7 +15,7 @@ use Rattle.text.specs.Words.{words_fault}
 use Rattle.text.specs.Reading.{left, ahead, follow, kind_of, Fenced, Skipped, NoWord, Opens}
 use Rattle.text.proofs.Joined.{shifted, lines_of_shift}
 use Rattle.text.proofs.Feeds.{FeedAt}
-use Rattle.text.proofs.Readers.{line_at, line_first, blanks_start, between_skip, between_over, opened_skip, opened-same, fence_in}
+use Rattle.text.proofs.Readers.{line_at, line_first, blanks_start, between_skip, between_over, opened_skip, opened_same, fence_in}
 use Rattle.text.proofs.ByteKinds.{not_bad, kind_zero}
 use Rattle.rules.specs.declared.Present.{Present}
 use Rattle.rules.specs.declared.Split.{Split}
@@ -24,7 +24,7 @@ use Rattle.rules.specs.Splitting.{words_of, IsSplit}
 use Rattle.rules.specs.Plain.{RuleRead}
 use Rattle.rules.specs.Checking.{line_of, present_fault, line_fault}
 use Rattle.rules.proofs.PlainLines.{passes_rule, passes_none}
-use Rattle.rules.proofs.LineKinds.{line_wrong, line-ignored, line-rule}
+use Rattle.rules.proofs.LineKinds.{line_wrong, line_ignored, line_rule}
 use Rattle.rules.proofs.CheckSteps.{refused_first, check_cons, entry_any}
 use Rattle.judging.specs.declared.Judged.{Judged}
 use Rattle.judging.specs.Lines.{RestRead, PlainStart, WordsJudged, RuleLineRead, LineRefused}
@@ -34,7 +34,7 @@ pub opens_plain : (s : Text) (f at i : ℕ) → Fenced s f → Skipped s at i �
 opens_plain s f at i g k l x z =
     record {
       opens = λ h n y.
-          opened-same s at n i n (opened_skip s at n i y k.blanks) (fence_in s f i g l)
+          opened_same s at n i n (opened_skip s at n i y k.blanks) (fence_in s f i g l)
           (record { blank = k.stop (fence_in s f i g l); bang = x; joins = λ e. absurd ((not_bad (get_or s i 0) (kind_zero (get_or s i 0) 0 0 z).1).slash e) });
     }
 
@@ -67,11 +67,11 @@ module _ (ws : Words) (p : Present) (f : ℕ) (e : f ≡ words_fault ws) where
   module _ (z : f ≡ 0) where
     pub fault_none : length ws ≡ 0 → (ns : List Text) → 0 ≡ line_fault ns p (entry_of (line_of 0 false ws))
     unfolding line_fault
-    fault_none h ns = rw (line-ignored 0 false ws f e z refl h) refl
+    fault_none h ns = rw (line_ignored 0 false ws f e z refl h) refl
 
     pub fault_rule : (length ws ≡ 0 → ⊥) → (k : ℕ) → k ≡ present_fault p ws → (ns : List Text) → k ≡ line_fault ns p (entry_of (line_of 0 false ws))
     unfolding line_fault
-    fault_rule h k g ns = rw (line-rule 0 false ws f e z refl h) g
+    fault_rule h k g ns = rw (line_rule 0 false ws f e z refl h) g
 
 -- a line that is split from `from` on, within the file
 
@@ -128,8 +128,8 @@ module _ (s : Text) (at n : ℕ) (p : Present) (b : Bool) (from m : ℕ) (lt : a
       }
 
   module _ (z : b ≡ false) (j : Judged) (w : WordsJudged s from m p j) where
-    pub read-words : j.fault ≡ 0 → RuleLineRead s at n p from m j.next j.after
-    read-words h =
+    pub read_words : j.fault ≡ 0 → RuleLineRead s at n p from m j.next j.after
+    read_words h =
         record {
           low = o.low;
           inside = o.high;
@@ -142,8 +142,8 @@ module _ (s : Text) (at n : ℕ) (p : Present) (b : Bool) (from m : ℕ) (lt : a
           fault = λ ns. rw (entry_any n false (left s from)) (sym (w.fault ns) ∙ h);
         }
 
-    pub words-refused : (j.fault ≡ 0 → ⊥) → LineRefused s at n p j.fault
-    words-refused h =
+    pub words_refused : (j.fault ≡ 0 → ⊥) → LineRefused s at n p j.fault
+    words_refused h =
         record {
           some = h;
           first = λ ns.

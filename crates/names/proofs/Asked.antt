@@ -38,7 +38,7 @@ use Rattle.names.proofs.Searching.{numbered_none}
 use Rattle.names.proofs.Joining.{says_none}
 use Rattle.names.proofs.Renewing.{filled_new, with_star}
 use Rattle.names.proofs.Defining.{whole}
-use Rattle.names.proofs.Marking.{filled_same, marked_nothing, marked-same, marked-then}
+use Rattle.names.proofs.Marking.{filled_same, marked_nothing, marked_same, marked_then}
 use Rattle.names.proofs.Placing.{lies_part, lies_options, lies_star, length_four, short_texts, values_of}
 use Rattle.names.proofs.Tests.{or_none, or_assoc, and_none, and_all}
 
@@ -125,8 +125,8 @@ module _ (s : Text) (b t rows : List ℕ) (flags : List Bool) (count : ℕ) wher
       Marked s t t'' rows rows'' flags flags'' count r (j + 1) (values_ask s b (j + 1))
   unfolding values_ask or_also
   values_more j t' rows' flags' n v t'' rows'' flags'' r row y u =
-      marked-same s t rows flags count t'' rows'' flags'' r (j + name_count (value_at s b j)) (or_also (values_ask s b j) (value_asks (value_at s b j) (says row)))
-      (marked-then s t rows flags count t' rows' flags' n j (values_ask s b j) v t'' rows'' flags'' r (name_count (value_at s b j)) (value_asks (value_at s b j) (says row)) u)
+      marked_same s t rows flags count t'' rows'' flags'' r (j + name_count (value_at s b j)) (or_also (values_ask s b j) (value_asks (value_at s b j) (says row)))
+      (marked_then s t rows flags count t' rows' flags' n j (values_ask s b j) v t'' rows'' flags'' r (name_count (value_at s b j)) (value_asks (value_at s b j) (says row)) u)
       (values_ask s b (j + 1)) (j + 1) (omega (arith, few_names (value_at s b j)))
       (λ k c w a l h.
       rw (add-one j)
@@ -210,16 +210,16 @@ module _ (o s : Text) (t rows : List ℕ) (flags : List Bool) (count : ℕ) wher
       }
 
   module _ (t' rows' : List ℕ) (flags' : List Bool) (n start : ℕ) (v : OptionsSo o s t t' rows rows' flags flags' count n start) where
-    pub options-more : (base e : ℕ) → Lies s base o → FieldEnd o start e → (t'' rows'' : List ℕ) (flags'' : List Bool) (r : ℕ) →
+    pub options_more : (base e : ℕ) → Lies s base o → FieldEnd o start e → (t'' rows'' : List ℕ) (flags'' : List Bool) (r : ℕ) →
         Marked s t' t'' rows' rows'' flags' flags'' n r (name_count (part s (base + start) (base + e)))
         (value_asks (part s (base + start) (base + e)) (says (record { layouts = 0; variants = 1 }))) →
         OptionsSo o s t t'' rows rows'' flags flags'' count r (e + 1)
     unfolding options_ask or_also
-    options-more base e l f t'' rows'' flags'' r u =
+    options_more base e l f t'' rows'' flags'' r u =
         record {
           most = v.most + name_count (part o start e);
           sofar = or_also v.sofar (value_asks (part o start e) (λ i d. is_options d));
-          marked = marked-then s t rows flags count t' rows' flags' n v.most v.sofar v.marked t'' rows'' flags'' r (name_count (part o start e))
+          marked = marked_then s t rows flags count t' rows' flags' n v.most v.sofar v.marked t'' rows'' flags'' r (name_count (part o start e))
               (value_asks (part o start e) (λ i d. is_options d)) y;
           few = omega (arith, v.few, count_step o start e f);
           on = λ k c w.
@@ -235,15 +235,15 @@ module _ (o s : Text) (t rows : List ℕ) (flags : List Bool) (count : ℕ) wher
 
         y : Marked s t' t'' rows' rows'' flags' flags'' n r (name_count (part o start e)) (value_asks (part o start e) (λ i d. is_options d))
         y =
-            marked-same s t' rows' flags' n t'' rows'' flags'' r (name_count (part o start e)) (value_asks (part o start e) (says (record { layouts = 0; variants = 1 }))) x
+            marked_same s t' rows' flags' n t'' rows'' flags'' r (name_count (part o start e)) (value_asks (part o start e) (says (record { layouts = 0; variants = 1 }))) x
             (value_asks (part o start e) (λ i d. is_options d)) (name_count (part o start e)) (omega arith)
             (λ k c w a b h. asks_same (part o start e) (says (record { layouts = 0; variants = 1 })) (λ i d. is_options d) k c w (option_row k c a))
 
-    pub options-done : length o ≤ start → Marked s t t' rows rows' flags flags' count n (length (options_of o)) (options_ask (options_of o))
+    pub options_done : length o ≤ start → Marked s t t' rows rows' flags flags' count n (length (options_of o)) (options_ask (options_of o))
     unfolding options_ask
-    options-done h =
+    options_done h =
         let z = options_end o start h in
-        marked-same s t rows flags count t' rows' flags' n v.most v.sofar v.marked (options_ask (options_of o)) (length (options_of o))
+        marked_same s t rows flags count t' rows' flags' n v.most v.sofar v.marked (options_ask (options_of o)) (length (options_of o))
         (omega (arith, v.few))
         (λ k c w a b g.
         sym (or_none (v.sofar k c w))
@@ -526,19 +526,19 @@ module _ (x : Texts) (h : profile_refusals x ≡ []) (d d' : Text) (used : ℕ) 
   star_lies = rw copied (lies_star x)
 
   module _ (b : List ℕ) (p : ValuesPlaced x.model x.layouts x.variants b) where
-    placed-values : ValuesOf x (take used d') b
-    placed-values = rw v.text (values_of x h b p)
+    placed_values : ValuesOf x (take used d') b
+    placed_values = rw v.text (values_of x h b p)
 
     pub all_placed : Placed (take (used - 0) d') b
     all_placed = rw copied (values_of x h b p).placed
 
-    pub compiled-profile : length d ≡ text_size → (t rows : List ℕ) (flags : List Bool) (count : ℕ) →
+    pub compiled_profile : length d ≡ text_size → (t rows : List ℕ) (flags : List Bool) (count : ℕ) →
         Begun (profile_asks (take (used - 0) d') b (options_of x.options)) (take (used - 0) d') t rows flags count → count ≤ 130 →
         CompiledProfile x d' t rows flags b (record { used = used; count = count })
-    compiled-profile z t rows flags count u l =
+    compiled_profile z t rows flags count u l =
         record {
-          ready = ready_profile x (take used d') b t rows flags count h placed-values (rw (whole used d') at u) l;
-          values = placed-values;
+          ready = ready_profile x (take used d') b t rows flags count h placed_values (rw (whole used d') at u) l;
+          values = placed_values;
           room = room_left;
           size = v.size ∙ z;
         }

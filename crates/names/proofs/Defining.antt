@@ -115,13 +115,13 @@ module _ (w : Text) (h : has_dollar w ≡ true) (row : Row) (d : Text) (used : �
   defines_full l = kept_all (λ x gs v e. refused_full gs (rest w) (omega arith))
 
   module _ (r : Bool) (e : r ≡ any_of (same w) (names_at (take (used - 0) d) t count)) where
-    pub defines-twice : r ≡ true → Defines w row d d used t t rows rows flags flags count groups (record { refused = true; used = used })
-    defines-twice f = kept_all (λ x gs v y. refused_twice w h d used t rows flags count x gs v r e f)
+    pub defines_twice : r ≡ true → Defines w row d d used t t rows rows flags flags count groups (record { refused = true; used = used })
+    defines_twice f = kept_all (λ x gs v y. refused_twice w h d used t rows flags count x gs v r e f)
 
-    pub defines-more : r ≡ false → groups < most_groups → Tables (take used d) t rows flags count → (d' : Text) (t' rows' : List ℕ) (flags' : List Bool) (n : ℕ) →
+    pub defines_more : r ≡ false → groups < most_groups → Tables (take used d) t rows flags count → (d' : Text) (t' rows' : List ℕ) (flags' : List Bool) (n : ℕ) →
         NewName d d' used n t t' rows rows' flags flags' count w row →
         Defines w row d d' used t t' rows rows' flags flags' count groups (record { refused = false; used = n })
-    defines-more f l b d' t' rows' flags' n u =
+    defines_more f l b d' t' rows' flags' n u =
         record {
           size = u.size;
           kept = λ z. absurd (no z);

@@ -191,14 +191,14 @@ module _ (o : Text) (base at : ℕ) (b₀ : List ℕ) (long : length b₀ ≡ 13
             ap (λ (y : List ℕ). get_or y i 0) z
             ∙ (get_or-set_other (set b (2 * (at + j)) (base + start)) (2 * (at + j) + 1) i (base + e) 0 q ∙ get_or-set_other b (2 * (at + j)) i (base + start) 0 p)
 
-        here-a : get_or b' (2 * (at + j)) 0 ≡ base + start
-        here-a =
+        here_a : get_or b' (2 * (at + j)) 0 ≡ base + start
+        here_a =
             ap (λ (y : List ℕ). get_or y (2 * (at + j)) 0) z
             ∙ (get_or-set_other (set b (2 * (at + j)) (base + start)) (2 * (at + j) + 1) (2 * (at + j)) (base + e) 0 (λ (y : 2 * (at + j) ≡ 2 * (at + j) + 1). omega arith)
             ∙ get_or-set_same b (2 * (at + j)) (base + start) 0 (omega (arith, g.size)))
 
-        here-e : get_or b' (2 * (at + j) + 1) 0 ≡ base + e
-        here-e =
+        here_e : get_or b' (2 * (at + j) + 1) 0 ≡ base + e
+        here_e =
             ap (λ (y : List ℕ). get_or y (2 * (at + j) + 1) 0) z
             ∙ get_or-set_same (set b (2 * (at + j)) (base + start)) (2 * (at + j) + 1) (base + e) 0 (simp length-set (omega (arith, g.size)))
 
@@ -215,7 +215,7 @@ module _ (o : Text) (base at : ℕ) (b₀ : List ℕ) (long : length b₀ ≡ 13
         go i false y h =
             let k = ltb-false i j y in
             let w : i ≡ j = omega arith in
-            rw w (record { start = start; stop = e; starts = here-a; stops = here-e; low = f.low; high = f.high; text = field })
+            rw w (record { start = start; stop = e; starts = here_a; stops = here_e; low = f.low; high = f.high; text = field })
 
     pub placing_end : 32 ≤ j → FieldsPlaced o base at b₀ b
     placing_end h = record { size = g.size; here = λ i k. g.done i (omega (arith, g.few)); before = g.before }
@@ -316,9 +316,9 @@ module _ (x : Texts) (h : profile_refusals x ≡ []) where
 
   -- the values of a profile that is not refused are in their places
   module _ (b : List ℕ) (p : ValuesPlaced x.model x.layouts x.variants b) where
-    in-text : (o : Text) (base j a e : ℕ) → Lies (four_texts x ++ (42 ∷ [])) base o → any_of long_field (fields o) ≡ false → FieldPlace o base j a e →
+    in_text : (o : Text) (base j a e : ℕ) → Lies (four_texts x ++ (42 ∷ [])) base o → any_of long_field (fields o) ≡ false → FieldPlace o base j a e →
         InText (four_texts x ++ (42 ∷ [])) a e
-    in-text o base j a e v k f =
+    in_text o base j a e v k f =
         let l : length (part o f.start f.stop) ≤ longest_field = rw f.text (not_long _ (short_at (fields o) j k)) in
         let m = length_part o f.start f.stop f.high in
         record { low = omega (arith, f.starts, f.stops, f.low); high = omega (arith, f.stops, f.high, v.high); short = omega (arith, f.starts, f.stops) }
@@ -335,22 +335,22 @@ module _ (x : Texts) (h : profile_refusals x ≡ []) where
         go : (c : Bool) → ltb j 32 ≡ c → InText (four_texts x ++ (42 ∷ [])) (get_or b (2 * suc j) 0) (get_or b (2 * suc j + 1) 0)
         go true z =
             let y : suc j ≡ 1 + j = omega arith in
-            rw y (in-text x.layouts (length x.model) j _ _ (lies_layouts x) (good_text x.layouts (fields x.layouts) good_layouts).1 (p.layout.here j (ltb-true j 32 z)))
+            rw y (in_text x.layouts (length x.model) j _ _ (lies_layouts x) (good_text x.layouts (fields x.layouts) good_layouts).1 (p.layout.here j (ltb-true j 32 z)))
         go false z =
             let k = ltb-false j 32 z in
             let y : suc j ≡ 33 + (j - 32) = omega arith in
             rw y
-            (in-text x.variants (length x.model + length x.layouts) (j - 32) _ _ (lies_variants x) (good_text x.variants (fields x.variants) good_variants).1
+            (in_text x.variants (length x.model + length x.layouts) (j - 32) _ _ (lies_variants x) (good_text x.variants (fields x.variants) good_variants).1
             (p.variant.here (j - 32) (omega arith)))
 
-    field-value : (o : Text) (base j n : ℕ) → Lies (four_texts x ++ (42 ∷ [])) base o → FieldPlace o base j (get_or b (2 * n) 0) (get_or b (2 * n + 1) 0) →
+    field_value : (o : Text) (base j n : ℕ) → Lies (four_texts x ++ (42 ∷ [])) base o → FieldPlace o base j (get_or b (2 * n) 0) (get_or b (2 * n + 1) 0) →
         value_at (four_texts x ++ (42 ∷ [])) b n ≡ get_or (fields o) j []
     unfolding value_at
-    field-value o base j n v f = rw (f.starts, f.stops) (lies_part (four_texts x ++ (42 ∷ [])) base o f.start f.stop v f.low f.high ∙ f.text)
+    field_value o base j n v f = rw (f.starts, f.stops) (lies_part (four_texts x ++ (42 ∷ [])) base o f.start f.stop v f.low f.high ∙ f.text)
 
-    model-value : value_at (four_texts x ++ (42 ∷ [])) b 0 ≡ x.model
+    model_value : value_at (four_texts x ++ (42 ∷ [])) b 0 ≡ x.model
     unfolding value_at
-    model-value =
+    model_value =
         let z : part (four_texts x ++ (42 ∷ [])) (0 + 0) (0 + length x.model) ≡ part x.model 0 (length x.model) =
         lies_part (four_texts x ++ (42 ∷ [])) 0 x.model 0 (length x.model) (lies_model x) (omega arith) (omega arith) in
         let e : 0 + length x.model ≡ length x.model = omega arith in
@@ -360,15 +360,15 @@ module _ (x : Texts) (h : profile_refusals x ≡ []) where
     values_of =
         record {
           placed = record { size = p.size; place = place };
-          model = model-value;
+          model = model_value;
           layout = λ k l m.
               (let y : 0 + k ≡ 1 + (k - 1) = omega arith in
               ap (value_at (four_texts x ++ (42 ∷ [])) b) y
-              ∙ field-value x.layouts (length x.model) (k - 1) (1 + (k - 1)) (lies_layouts x) (p.layout.here (k - 1) (omega arith)));
+              ∙ field_value x.layouts (length x.model) (k - 1) (1 + (k - 1)) (lies_layouts x) (p.layout.here (k - 1) (omega arith)));
           variant = λ k l m.
               (let y : 32 + k ≡ 33 + (k - 1) = omega arith in
               ap (value_at (four_texts x ++ (42 ∷ [])) b) y
-              ∙ field-value x.variants (length x.model + length x.layouts) (k - 1) (33 + (k - 1)) (lies_variants x) (p.variant.here (k - 1) (omega arith)));
+              ∙ field_value x.variants (length x.model + length x.layouts) (k - 1) (33 + (k - 1)) (lies_variants x) (p.variant.here (k - 1) (omega arith)));
         }
 
 -- in a text that is made longer

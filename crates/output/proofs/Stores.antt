@@ -120,17 +120,17 @@ module _ (d s : Text) (start from : ℕ) where
       rw z at (copied_more d (set (set d start (get_or s from 0)) (start + 1) (get_or s (from + 1) 0)) s start from (from + 2) (start + 2) (omega arith) l (omega arith) (copied_two (omega arith)))
 
   module _ (n : ℕ) (h : from + n ≤ length s) where
-    pub few-none : n ≡ 0 → d ≡ stored d start (part s from (from + n))
-    few-none e = let z : from + n ≡ from = omega arith in rw z (copied_none d s start from)
+    pub few_none : n ≡ 0 → d ≡ stored d start (part s from (from + n))
+    few_none e = let z : from + n ≡ from = omega arith in rw z (copied_none d s start from)
 
-    pub few-one : n ≡ 1 → set d start (get_or s from 0) ≡ stored d start (part s from (from + n))
-    few-one e = rw e (copied_one (omega arith))
+    pub few_one : n ≡ 1 → set d start (get_or s from 0) ≡ stored d start (part s from (from + n))
+    few_one e = rw e (copied_one (omega arith))
 
-    pub few-two : n ≡ 2 → set (set d start (get_or s from 0)) (start + 1) (get_or s (from + 1) 0) ≡ stored d start (part s from (from + n))
-    few-two e = rw e (copied_two (omega arith))
+    pub few_two : n ≡ 2 → set (set d start (get_or s from 0)) (start + 1) (get_or s (from + 1) 0) ≡ stored d start (part s from (from + n))
+    few_two e = rw e (copied_two (omega arith))
 
-    pub few-three : n ≡ 3 → set (set (set d start (get_or s from 0)) (start + 1) (get_or s (from + 1) 0)) (start + 2) (get_or s (from + 2) 0) ≡ stored d start (part s from (from + n))
-    few-three e = rw e (copied_three (omega arith))
+    pub few_three : n ≡ 3 → set (set (set d start (get_or s from 0)) (start + 1) (get_or s (from + 1) 0)) (start + 2) (get_or s (from + 2) 0) ≡ stored d start (part s from (from + n))
+    few_three e = rw e (copied_three (omega arith))
 
 pub few_whole : (d d' s : Text) (start from e : ℕ) → from ≤ e → d' ≡ stored d start (part s from (from + (e - from))) → d' ≡ stored d start (part s from e)
 few_whole d d' s start from e h g = let z : from + (e - from) ≡ e = omega arith in rw z at g

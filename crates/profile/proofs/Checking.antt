@@ -38,11 +38,11 @@ module _ (s : Text) where
   clean_start = record { high = omega arith; rest = refl }
 
   module _ (i : ℕ) (v : Clean s i) where
-    pub clean-bad : i < length s → outside (get_or s i 0) ≡ true → true ≡ any_of outside s
-    clean-bad h e = sym (v.rest ∙ (out_at s i h ∙ rw e))
+    pub clean_bad : i < length s → outside (get_or s i 0) ≡ true → true ≡ any_of outside s
+    clean_bad h e = sym (v.rest ∙ (out_at s i h ∙ rw e))
 
-    pub clean-more : i < length s → outside (get_or s i 0) ≡ false → Clean s (i + 1)
-    clean-more h e = record { high = omega arith; rest = v.rest ∙ (out_at s i h ∙ rw e) }
+    pub clean_more : i < length s → outside (get_or s i 0) ≡ false → Clean s (i + 1)
+    clean_more h e = record { high = omega arith; rest = v.rest ∙ (out_at s i h ∙ rw e) }
 
     pub clean_end : length s ≤ i → false ≡ any_of outside s
     clean_end h = sym (v.rest ∙ rw (drop_of_length-le s h, out_nil))
@@ -108,23 +108,23 @@ module _ (s : Text) where
 
   module _ (start i : ℕ) (v : Sound s start i) where
     module _ (h : i < length s) where
-      pub sound-bad : outside (get_or s i 0) ≡ true → true ≡ bad_text s (fields s)
-      sound-bad e = sym (v.rest ∙ rw (out_at s i h, e))
+      pub sound_bad : outside (get_or s i 0) ≡ true → true ≡ bad_text s (fields s)
+      sound_bad e = sym (v.rest ∙ rw (out_at s i h, e))
 
       module _ (o : outside (get_or s i 0) ≡ false) where
-        sound-comma : get_or s i 0 ≡ 44 → bad_text s (fields s) ≡ any_of outside (drop (i + 1) s) || (ltb longest_field (i - start) || any_of long_field (fields (drop (i + 1) s)))
-        sound-comma e = v.rest ∙ rw (out_at s i h, o, drop_at s i h, fields_comma _ _ e, long_comma)
+        sound_comma : get_or s i 0 ≡ 44 → bad_text s (fields s) ≡ any_of outside (drop (i + 1) s) || (ltb longest_field (i - start) || any_of long_field (fields (drop (i + 1) s)))
+        sound_comma e = v.rest ∙ rw (out_at s i h, o, drop_at s i h, fields_comma _ _ e, long_comma)
 
-        pub sound-long : get_or s i 0 ≡ 44 → longest_field < i - start → true ≡ bad_text s (fields s)
-        sound-long e l = sym (sound-comma e ∙ or_right (any_of outside (drop (i + 1) s)) _ (rw (lt-ltb longest_field (i - start) l)))
+        pub sound_long : get_or s i 0 ≡ 44 → longest_field < i - start → true ≡ bad_text s (fields s)
+        sound_long e l = sym (sound_comma e ∙ or_right (any_of outside (drop (i + 1) s)) _ (rw (lt-ltb longest_field (i - start) l)))
 
-        pub sound-next : get_or s i 0 ≡ 44 → i - start ≤ longest_field → Sound s (i + 1) (i + 1)
-        sound-next e l =
+        pub sound_next : get_or s i 0 ≡ 44 → i - start ≤ longest_field → Sound s (i + 1) (i + 1)
+        sound_next e l =
             let z : i + 1 - (i + 1) ≡ 0 = omega arith in
             record {
               low = omega arith;
               high = omega arith;
-              rest = sound-comma e ∙ rw (le-ltb longest_field (i - start) l, z, long_zero (fields (drop (i + 1) s)));
+              rest = sound_comma e ∙ rw (le-ltb longest_field (i - start) l, z, long_zero (fields (drop (i + 1) s)));
             }
 
         pub sound_more : (get_or s i 0 ≡ 44 → ⊥) → Sound s start (i + 1)
@@ -136,8 +136,8 @@ module _ (s : Text) where
               rest = v.rest ∙ rw (out_at s i h, o, drop_at s i h, fields_other _ _ n, long_push, z);
             }
 
-    pub sound-end : length s ≤ i → ltb longest_field (i - start) ≡ bad_text s (fields s)
-    sound-end h =
+    pub sound_end : length s ≤ i → ltb longest_field (i - start) ≡ bad_text s (fields s)
+    sound_end h =
         sym (v.rest ∙ rw (drop_of_length-le s h, out_nil, fields_nil, long_comma, long_none) (or-false (ltb longest_field (i - start))))
 
 -- a byte

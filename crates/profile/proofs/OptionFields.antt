@@ -81,17 +81,17 @@ module _ (s : Text) where
 
   module _ (n start : ℕ) (v : Tallied s n start) where
     module _ (e : ℕ) (f : FieldEnd s start e) where
-      pub tallied-field : start < e → Tallied s (n + 1) (e + 1)
-      tallied-field h =
+      pub tallied_field : start < e → Tallied s (n + 1) (e + 1)
+      tallied_field h =
           let z : length (options_of (drop start s)) ≡ suc (length (options_of (drop (e + 1) s))) = ap length (options_field s start e f h) in
           record { few = omega (arith, v.few); high = omega (arith, f.high); rest = omega (arith, v.rest) }
 
-      pub tallied-none : e ≤ start → Tallied s n (e + 1)
-      tallied-none h =
+      pub tallied_none : e ≤ start → Tallied s n (e + 1)
+      tallied_none h =
           let z : length (options_of (drop start s)) ≡ length (options_of (drop (e + 1) s)) = ap length (options_none s start e f h) in
           record { few = omega (arith, v.few, f.low); high = omega (arith, f.high); rest = omega (arith, v.rest) }
 
-    pub tallied-end : length s ≤ start → n ≡ length (options_of s)
-    tallied-end h =
+    pub tallied_end : length s ≤ start → n ≡ length (options_of s)
+    tallied_end h =
         let z : length (options_of (drop start s)) ≡ 0 = ap length (options_end s start h) in
         omega (arith, v.rest)

@@ -47,19 +47,19 @@ module _ (m l v o : Text) where
 
     -- with the numbers of layouts, variants and options as they were counted
     module _ (n : ℕ) (p : n ≡ length (fields l)) where
-      pub refused-count : most_layouts < n → record { number = 2; place = 2 } ≡ Answer
+      pub refused_count : most_layouts < n → record { number = 2; place = 2 } ≡ Answer
       unfolding count_refusals first_refusal refused_if
-      refused-count h = sym (counts ∙ rw (← p, lt-ltb most_layouts n h))
+      refused_count h = sym (counts ∙ rw (← p, lt-ltb most_layouts n h))
 
       module _ (e : n ≤ most_layouts) (k : ℕ) (q : k ≡ length (fields v)) where
-        pub refused-more : n < k → record { number = 2; place = 3 } ≡ Answer
+        pub refused_more : n < k → record { number = 2; place = 3 } ≡ Answer
         unfolding count_refusals first_refusal refused_if
-        refused-more h = sym (counts ∙ rw (← p, ← q, le-ltb most_layouts n e, lt-ltb n k h))
+        refused_more h = sym (counts ∙ rw (← p, ← q, le-ltb most_layouts n e, lt-ltb n k h))
 
         module _ (f : k ≤ n) (j : ℕ) (r : j ≡ length (options_of o)) where
-          pub refused-many : most_options < j → record { number = 2; place = 4 } ≡ Answer
+          pub refused_many : most_options < j → record { number = 2; place = 4 } ≡ Answer
           unfolding count_refusals first_refusal refused_if
-          refused-many h = sym (counts ∙ rw (← p, ← q, ← r, le-ltb most_layouts n e, le-ltb n k f, lt-ltb most_options j h))
+          refused_many h = sym (counts ∙ rw (← p, ← q, ← r, le-ltb most_layouts n e, le-ltb n k f, lt-ltb most_options j h))
 
           pub refused_none : j ≤ most_options → record { number = 0; place = 0 } ≡ Answer
           unfolding count_refusals first_refusal refused_if

@@ -90,24 +90,24 @@ module _ (s : Text) (from : ℕ) where
   in_field_start h = record { low = omega arith; high = h; split = rw (part_empty s from, pushes_nil) }
 
   module _ (i : ℕ) (v : InField s from i) where
-    pub in-field-more : i < length s → (get_or s i 0 ≡ 44 → ⊥) → InField s from (i + 1)
-    in-field-more h n =
+    pub in_field_more : i < length s → (get_or s i 0 ≡ 44 → ⊥) → InField s from (i + 1)
+    in_field_more h n =
         record {
           low = omega (arith, v.low);
           high = omega arith;
           split = v.split ∙ rw (drop_at s i h, fields_other _ _ n, part_snoc s from i v.low h, pushes_snoc);
         }
 
-    pub in-field-comma : i < length s → get_or s i 0 ≡ 44 → FieldEnd s from i
-    in-field-comma h e =
+    pub in_field_comma : i < length s → get_or s i 0 ≡ 44 → FieldEnd s from i
+    in_field_comma h e =
         record {
           low = v.low;
           high = v.high;
           split = v.split ∙ rw (drop_at s i h, fields_comma _ _ e, pushes_empty, behind_cons);
         }
 
-    pub in-field-end : length s ≤ i → FieldEnd s from i
-    in-field-end h =
+    pub in_field_end : length s ≤ i → FieldEnd s from i
+    in_field_end h =
         let z = drop_of_length-le s h in
         record { low = v.low; high = v.high; split = v.split ∙ rw (z, fields_nil, pushes_empty, behind_nil) }
 
@@ -122,19 +122,19 @@ module _ (s : Text) where
   counted_start = record { high = omega arith; few = omega arith; rest = omega arith }
 
   module _ (n i : ℕ) (v : Counted s n i) where
-    pub counted-comma : i < length s → get_or s i 0 ≡ 44 → Counted s (n + 1) (i + 1)
-    counted-comma h e =
+    pub counted_comma : i < length s → get_or s i 0 ≡ 44 → Counted s (n + 1) (i + 1)
+    counted_comma h e =
         let z : length (fields (drop i s)) ≡ suc (length (fields (drop (i + 1) s))) = rw (drop_at s i h, fields_comma _ _ e) in
         record { high = omega arith; few = omega (arith, v.few); rest = omega (arith, v.rest) }
 
-    pub counted-other : i < length s → (get_or s i 0 ≡ 44 → ⊥) → Counted s n (i + 1)
-    counted-other h e =
+    pub counted_other : i < length s → (get_or s i 0 ≡ 44 → ⊥) → Counted s n (i + 1)
+    counted_other h e =
         let z : length (fields (drop i s)) ≡ length (fields (drop (i + 1) s)) =
         rw (drop_at s i h, fields_other _ _ e) (length_push _ _ (some_field (drop (i + 1) s))) in
         record { high = omega arith; few = omega (arith, v.few); rest = omega (arith, v.rest) }
 
-    pub counted-end : length s ≤ i → n ≡ length (fields s)
-    counted-end h =
+    pub counted_end : length s ≤ i → n ≡ length (fields s)
+    counted_end h =
         let z : length (fields (drop i s)) ≡ 1 = rw (drop_of_length-le s h, fields_nil) in
         omega (arith, v.rest)
 
@@ -156,8 +156,8 @@ module _ (s : Text) (k : ℕ) where
   passed_start = record { high = omega arith; rest = refl }
 
   module _ (start left : ℕ) (v : Passed s k start left) (e : ℕ) (f : FieldEnd s start e) where
-    pub passed-more : 0 < left → e < length s → Passed s k (e + 1) (left - 1)
-    passed-more h l =
+    pub passed_more : 0 < left → e < length s → Passed s k (e + 1) (left - 1)
+    passed_more h l =
         record {
           high = omega arith;
           rest = v.rest ∙ rw (f.split, get_d_suc (part s start e) (behind (drop e s)) left h, drop_at s e l, behind_cons);

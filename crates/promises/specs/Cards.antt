@@ -71,11 +71,11 @@ module _ (t : Texts) (x s d d' : Text) (n : ℕ) (v : CardWrites t x s d d' n) (
     (room : total (lent_texts t x (lengths_in s)) ≤ length e) where
   pub entry_read_back : (m ≡ 0) × (card_lengths_in sh' ≡ map length (lent_texts t x (lengths_in s))) × (texts_in e' (card_lengths_in sh') ≡ lent_texts t x (lengths_in s))
   entry_read_back =
-      let h = desk.desk-had t x s d d' n v done e e' sh sh' m w long room in
-      (desk.desk-number t x s d d' n v done e e' sh sh' m w long room, h.lengths, h.texts)
+      let h = desk.desk_had t x s d d' n v done e e' sh sh' m w long room in
+      (desk.desk_number t x s d d' n v done e e' sh sh' m w long room, h.lengths, h.texts)
 
   pub entry_later : (drop (total (lent_texts t x (lengths_in s))) e' ≡ drop (total (lent_texts t x (lengths_in s))) e) × (drop card_sheet_length sh' ≡ drop card_sheet_length sh)
-  entry_later = let h = desk.desk-had t x s d d' n v done e e' sh sh' m w long room in (h.later, h.sheet)
+  entry_later = let h = desk.desk_had t x s d d' n v done e e' sh sh' m w long room in (h.later, h.sheet)
 
 -- "every accepted card is the one that writing would give": what an accepted card c was read into, lent to a writing (the ten texts begin behind the first four,
 -- and their sheet is the last 40 of the 56 bytes), gives c again, with room for it.
@@ -84,4 +84,4 @@ module _ (c e e' sh sh' : Text) (v : CardReads c e e' sh sh' 0) (b : Bytes c)
     (w : CardWrites (card_profile (texts_in e' (card_lengths_in sh'))) (drop (sum (take 4 (card_lengths_in sh'))) e') (drop 16 sh') d d' n)
     (room : length c ≤ length d) where
   pub entry_written_so : (n ≡ length c) × (take n d' ≡ c)
-  entry_written_so = (desk.server-number c e e' sh sh' v b d d' n w room, desk.server-card c e e' sh sh' v b d d' n w room)
+  entry_written_so = (desk.server_number c e e' sh sh' v b d d' n w room, desk.server_card c e e' sh sh' v b d d' n w room)

@@ -88,7 +88,7 @@ keywords_exact = recognised.keywords_exact
 pub all_spelling : (gs : Groups) (p : Profile) (c d : ℕ) (es : List Entry) (rs rs' : List Rule) → NoneEmpty p → Spelled all_rule es rs → Spelled any_rule es rs' →
     (base (values_of d (head_fires gs p (applies (all_heading c)) rs)) ≡ base (values_of d (head_fires gs p (applies (any_heading c)) rs'))) ×
     (additions (values_of d (head_fires gs p (applies (all_heading c)) rs)) ≡ additions (values_of d (head_fires gs p (applies (any_heading c)) rs')))
-all_spelling gs p c d es rs rs' n s s' = (spellings.spelled_base gs p c d es rs rs' n s s', spellings.spelled-additions gs p c d es rs rs' n s s')
+all_spelling gs p c d es rs rs' n s s' = (spellings.spelled_base gs p c d es rs rs' n s s', spellings.spelled_additions gs p c d es rs rs' n s s')
 
 -- These headings are what the words of the two heading lines mean, for each of the five component words w.
 pub spelled_headings : (w : Text) → component_of w < 5 →

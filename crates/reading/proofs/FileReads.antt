@@ -149,9 +149,9 @@ module _ (n : ℕ) (s : Text) (h : Held) (d₀ : Text) (t₀ rows₀ : List ℕ)
             leads = λ p m. g.means w₀ q₀ p ((v.leads p m).on on);
           }
 
-      pub reads-less : steps_left r' < steps_left r
+      pub reads_less : steps_left r' < steps_left r
       unfolding steps_left
-      reads-less = go r'.more refl
+      reads_less = go r'.more refl
         where
           go : (c : Bool) → r'.more ≡ c → cond r'.more (length s - r'.at + 1) 0 < cond r.more (length s - r.at + 1) 0
           go true e = rw (e, on) (omega (arith, g.further e, (g.sound e).high))

@@ -137,30 +137,30 @@ module _ (n : ℕ) (s : Text) (r : Reading) (x : FirstWord) (h : AtGroup s r x) 
         first_refusal (check_from (names_of gs) r.set.present (follow s r.at r.line)) ≡ record { number = 10; place = r.line }
     ten gs e = rw line (faults_twice gs r.set.present r.line (line_words s x) (follow s g.next g.after) (rest name) (members_in s x) (entry z) e)
 
-    pub group-full : most_groups ≤ r.groups → HeadRead n s d d t t rows rows flags flags r (stopped_at r 10 r.line)
-    group-full l =
+    pub group_full : most_groups ≤ r.groups → HeadRead n s d d t t rows rows flags flags r (stopped_at r 10 r.line)
+    group_full l =
         refused_as_lem 10 d t rows flags (λ c. absurd (omega arith)) refl
         (λ gs p a c. ten gs (or_right (defined gs (rest name)) (leb most_groups (length gs)) (le-leb most_groups (length gs) (omega arith))))
 
     module _ (d' : Text) (t' rows' : List ℕ) (flags' : List Bool) (e : GroupDefined)
         (q : Defines name g.row d d' r.used t t' rows rows' flags flags' r.count r.groups e) where
-      pub group-twice : e.refused ≡ true → HeadRead n s d d' t t' rows rows' flags flags' r (stopped_at r 10 r.line)
-      group-twice f =
+      pub group_twice : e.refused ≡ true → HeadRead n s d d' t t' rows rows' flags flags' r (stopped_at r 10 r.line)
+      group_twice f =
           refused_as_lem 10 d' t' rows' flags' (λ c. absurd (omega arith)) q.size
           (λ gs p a c. ten gs (sym (q.refusal p gs a c) ∙ f))
 
       module _ (f : e.refused ≡ false) where
-        owes-all : (gs : Groups) (p : Texts) (kept : Kept) → owed gs (profile_of p) r.set kept (follow s r.at r.line) ≡
+        owes_all : (gs : Groups) (p : Texts) (kept : Kept) → owed gs (profile_of p) r.set kept (follow s r.at r.line) ≡
             owed (record { name = rest name; members = members_in s x } ∷ gs) (profile_of p) (closed_set no_heading r.set.set) kept (follow s g.next g.after)
-        owes-all gs p kept =
+        owes_all gs p kept =
             ap (λ (y : OpenSet). owed gs (profile_of p) y kept (follow s r.at r.line)) h.heading.closed
             ∙ (owed_closed gs p r.set.present r.set.set kept (follow s r.at r.line)
             ∙ (ap (firings_from gs (profile_of p)) line
             ∙ (fires_group gs (profile_of p) r.line (line_words s x) (follow s g.next g.after) (rest name) (members_in s x) (entry z)
             ∙ sym (owed_closed (record { name = rest name; members = members_in s x } ∷ gs) p no_heading r.set.set kept (follow s g.next g.after)))))
 
-        pub group-more : HeadRead n s d d' t t' rows rows' flags flags' r (grouped_at r g.next g.after e.used)
-        group-more =
+        pub group_more : HeadRead n s d d' t t' rows rows' flags flags' r (grouped_at r g.next g.after e.used)
+        group_more =
             record {
               size = q.size;
               steps = λ b y w u.
@@ -191,7 +191,7 @@ module _ (n : ℕ) (s : Text) (r : Reading) (x : FirstWord) (h : AtGroup s r x) 
                         };
                     further = λ c. omega (arith, h.heading.inside, h.heading.opens.low, h.low, v.onwards, v.on);
                     means = λ w₀ q₀ p a.
-                        let i = owes-all a.groups p a.rules in
+                        let i = owes_all a.groups p a.rules in
                         record {
                           refused = λ c. absurd (c refl);
                           on = λ c.

@@ -41,8 +41,8 @@ module _ (first m i : ℕ) (ps : List ℕ) where
   noted_start e = record { at = λ j a l. absurd (omega arith); above = λ j a. refl; size = e }
 
   module _ (k : ℕ) (ps' : List ℕ) (v : NotedTo k ps') where
-    pub noted-hit : k < most_places → is_in k m ≡ true → NotedTo (k + 1) (set ps' k i)
-    noted-hit l e =
+    pub noted_hit : k < most_places → is_in k m ≡ true → NotedTo (k + 1) (set ps' k i)
+    noted_hit l e =
         record {
           at = λ j a h. go j a h (eqb k j) refl;
           above = λ j a. get_or-set_other ps' k j i 0 (λ q. omega arith) ∙ v.above j (omega arith);
@@ -53,15 +53,15 @@ module _ (first m i : ℕ) (ps : List ℕ) where
         go j a h true q = rw (← eqb-true k j q, e) (get_or-set_same ps' k i 0 (omega (arith, v.size)))
         go j a h false q = get_or-set_other ps' k j i 0 (λ x. eqb-false k j q (sym x)) ∙ v.at j a (omega (arith, eqb-false k j q))
 
-    pub noted-miss : is_in k m ≡ false → NotedTo (k + 1) ps'
-    noted-miss e = record { at = λ j a h. go j a h (eqb k j) refl; above = λ j a. v.above j (omega arith); size = v.size }
+    pub noted_miss : is_in k m ≡ false → NotedTo (k + 1) ps'
+    noted_miss e = record { at = λ j a h. go j a h (eqb k j) refl; above = λ j a. v.above j (omega arith); size = v.size }
       where
         go : (j : ℕ) → first ≤ j → j < k + 1 → (t : Bool) → eqb k j ≡ t → get_or ps' j 0 ≡ cond (is_in j m) i (get_or ps j 0)
         go j a h true q = rw (← eqb-true k j q, e) (v.above k (omega arith))
         go j a h false q = v.at j a (omega (arith, eqb-false k j q))
 
-    pub noted-end : (count : ℕ) → first + count ≤ k → Noted first count m i ps ps'
-    noted-end count h = record { at = λ j a l. v.at j a (omega arith); size = v.size }
+    pub noted_end : (count : ℕ) → first + count ≤ k → Noted first count m i ps ps'
+    noted_end count h = record { at = λ j a l. v.at j a (omega arith); size = v.size }
 
 -- the right words of a rule with as many words as its heading asks
 
@@ -98,8 +98,8 @@ module _ (p : Profile) (o : OpenSet) (s : Text) (ps : List ℕ) (d₀ : Text) (q
       record { low = omega arith; high = omega arith; going = λ l. rw e (going_start d₀ q₀ _ h) }
 
   module _ (k : ℕ) (d : Text) (q : Cursors) (v : KeptGoing k d q) where
-    pub kept-end : o.first + o.count ≤ k → KeptFired p o s ps d₀ d q₀ q
-    kept-end h = record { bytes = λ l. (done l).0; places = λ l. (done l).1 }
+    pub kept_end : o.first + o.count ≤ k → KeptFired p o s ps d₀ d q₀ q
+    kept_end h = record { bytes = λ l. (done l).0; places = λ l. (done l).1 }
       where
         done : (l : ℕ → ℕ) → (d ≡ run_buf d₀ q₀ (concat_map (place_fires p o s ps l) (layouts_in o))) × (q ≡ run_cur q₀ (concat_map (place_fires p o s ps l) (layouts_in o)))
         done l =
@@ -111,9 +111,9 @@ module _ (p : Profile) (o : OpenSet) (s : Text) (ps : List ℕ) (d₀ : Text) (q
           place_fires p o s ps l k ++ concat_map (place_fires p o s ps l) (up_from (o.first + o.count - (k + 1)) (k + 1))
       next l = range_next (place_fires p o s ps l) (o.first + o.count) k h
 
-      pub kept-skip : is_in k o.wanted ≡ true → KeptGoing (k + 1) d q
+      pub kept_skip : is_in k o.wanted ≡ true → KeptGoing (k + 1) d q
       unfolding place_fires
-      kept-skip e =
+      kept_skip e =
           record {
             low = omega (arith, v.low);
             high = omega arith;

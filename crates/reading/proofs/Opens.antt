@@ -92,20 +92,20 @@ module _ (h : SetHeading) (n : ℕ) (sized : SetSized h) (one : FromOne h.index)
     within : any_of per_layout (heading_by h).columns ≡ true → (1 ≤ r.first) × (r.first + r.count ≤ n + 1)
     within e = range_within h n r is e one some c
 
-    range-low : r.first + r.count ≤ most_places
-    range-low = go (any_of per_layout (heading_by h).columns) refl
+    range_low : r.first + r.count ≤ most_places
+    range_low = go (any_of per_layout (heading_by h).columns) refl
       where
         go : (b : Bool) → any_of per_layout (heading_by h).columns ≡ b → r.first + r.count ≤ most_places
         go true e = omega (arith, (within e).1)
         go false e = let w = range_single h n r is e in omega (arith, w.0, w.1)
 
-    pub range-room : r.first + r.count ≤ 64
-    range-room = omega (arith, range-low)
+    pub range_room : r.first + r.count ≤ 64
+    range_room = omega (arith, range_low)
 
-    pub opened-set : (p : Present) (every : Bool) (w : ℕ) → p ≡ present_by h → every ≡ any_of is_options (heading_by h).columns → Spans r.first r.count w →
+    pub opened_set : (p : Present) (every : Bool) (w : ℕ) → p ≡ present_by h → every ≡ any_of is_options (heading_by h).columns → Spans r.first r.count w →
         Opened n h (record { present = p; set = h; first = r.first; count = r.count; every = every; wanted = w })
     unfolding set_owes owed_at
-    opened-set p every w e v u =
+    opened_set p every w e v u =
         record {
           held =
               record {
@@ -117,7 +117,7 @@ module _ (h : SetHeading) (n : ℕ) (sized : SetSized h) (one : FromOne h.index)
                 all = record { all = λ y k a b. u.inside k a b };
                 some = some;
               };
-          range = range-low;
+          range = range_low;
           set = refl;
           present = e ∙ present_is h sized;
           owes = λ gs q c kept rs.

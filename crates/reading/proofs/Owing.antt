@@ -107,18 +107,18 @@ module _ (look : Text → Words) (p : Profile) (o : OpenSet) (kept : Kept) where
       (is : (k : ℕ) → o.first ≤ k → k < o.first + o.count → is_in k m ≡ (is_in k o.wanted && matches_at r k))
       (out : (k : ℕ) → is_in k w ≡ (is_in k o.wanted && not (is_in k m))) where
     -- the first matching rule is kept
-    pub owes-keep : o.every ≡ false → set_owes look p o kept (r ∷ rs) ≡ set_owes look p (wanting o w) (keeping m r kept) rs
+    pub owes_keep : o.every ≡ false → set_owes look p o kept (r ∷ rs) ≡ set_owes look p (wanting o w) (keeping m r kept) rs
     unfolding set_owes owed_at keeping
-    owes-keep e =
+    owes_keep e =
         rw e
         (each_same _ _ o.count o.first (λ k a b.
         rw (fires_cons look p h k r rs, out k, is k a b, at_cond p h (is_in k o.wanted && matches_at r k) r (kept k) k)
         (step_hit (fires_at p h r k) (set_fires look p h k rs) (fires_at p h (kept k) k) (is_in k o.wanted) (matches_at r k))))
 
     -- each matching rule fires at once
-    pub owes-fire : o.every ≡ true → AllWanted o → set_owes look p o kept (r ∷ rs) ≡ kept_fires p (wanting o w) (keeping m r kept) ++ set_owes look p o kept rs
+    pub owes_fire : o.every ≡ true → AllWanted o → set_owes look p o kept (r ∷ rs) ≡ kept_fires p (wanting o w) (keeping m r kept) ++ set_owes look p o kept rs
     unfolding set_owes kept_fires keeping
-    owes-fire e v =
+    owes_fire e v =
         rw e
         (every_cons look p h (layouts_in o) r rs
         ∙ ap (λ (x : List Firing). x ++ rule_by_rule look p h (layouts_in o) rs)

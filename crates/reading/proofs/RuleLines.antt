@@ -30,7 +30,7 @@ use Rattle.reading.specs.declared.OpenSet.{OpenSet}
 use Rattle.reading.specs.Order.{rules_from, firings_from}
 use Rattle.reading.specs.Owed.{Kept, AllWanted, wanting, keeping, set_owes, owed, kept_fires}
 use Rattle.reading.proofs.LineFires.{next_rules, rules_line, next_firings, firings_line}
-use Rattle.reading.proofs.Owing.{owes_miss, owes-keep, owes-fire}
+use Rattle.reading.proofs.Owing.{owes_miss, owes_keep, owes_fire}
 
 -- what is refused of the line
 
@@ -130,41 +130,41 @@ module _ (p : Present) (n : ℕ) (ws : Words) (fine : (ns : List Text) → line_
       shape_fine _ _ _ ws (sym (present_shape h ws) ∙ b)
 
   module _ (gs : Groups) (pr : Profile) (o : OpenSet) (kept : Kept) (ls : List Line) where
-    next-fires : firings_from gs pr (line_of n false ws ∷ ls) ≡ firings_from gs pr ls
-    next-fires = firings_line gs pr (line_of n false ws) ls ∙ rw line_is (next_plain gs pr ls ws)
+    next_fires : firings_from gs pr (line_of n false ws ∷ ls) ≡ firings_from gs pr ls
+    next_fires = firings_line gs pr (line_of n false ws) ls ∙ rw line_is (next_plain gs pr ls ws)
 
-    blank-rules : length ws ≡ 0 → rules_from (line_of n false ws ∷ ls) ≡ rules_from ls
+    blank_rules : length ws ≡ 0 → rules_from (line_of n false ws ∷ ls) ≡ rules_from ls
     unfolding next_rules
-    blank-rules e = rules_line (line_of n false ws) ls ∙ rw (line_is, blank_is ws e) refl
+    blank_rules e = rules_line (line_of n false ws) ls ∙ rw (line_is, blank_is ws e) refl
 
     more_rules : (length ws ≡ 0 → ⊥) → rules_from (line_of n false ws ∷ ls) ≡ record { number = n; text = ws } ∷ rules_from ls
     unfolding next_rules
     more_rules e = rules_line (line_of n false ws) ls ∙ rw (line_is, rule_is ws e) refl
 
     -- no rule
-    pub owed-blank : length ws ≡ 0 → owed gs pr o kept (line_of n false ws ∷ ls) ≡ owed gs pr o kept ls
+    pub owed_blank : length ws ≡ 0 → owed gs pr o kept (line_of n false ws ∷ ls) ≡ owed gs pr o kept ls
     unfolding owed
-    owed-blank e = rw (blank-rules e, next-fires) refl
+    owed_blank e = rw (blank_rules e, next_fires) refl
 
     module _ (some : length ws ≡ 0 → ⊥) (all : AllWanted o) where
       -- a rule that matches at no layout that wants one
-      pub owed-miss : ((k : ℕ) → o.first ≤ k → k < o.first + o.count → (is_in k o.wanted && rule_matches (members gs) pr k (heading_by o.set).columns ws) ≡ false) →
+      pub owed_miss : ((k : ℕ) → o.first ≤ k → k < o.first + o.count → (is_in k o.wanted && rule_matches (members gs) pr k (heading_by o.set).columns ws) ≡ false) →
           owed gs pr o kept (line_of n false ws ∷ ls) ≡ owed gs pr o kept ls
       unfolding owed
-      owed-miss m = rw (more_rules some, next-fires, owes_miss (members gs) pr o kept (record { number = n; text = ws }) (rules_from ls) all m) refl
+      owed_miss m = rw (more_rules some, next_fires, owes_miss (members gs) pr o kept (record { number = n; text = ws }) (rules_from ls) all m) refl
 
       module _ (m w : ℕ) (is : (k : ℕ) → o.first ≤ k → k < o.first + o.count →
           is_in k m ≡ (is_in k o.wanted && rule_matches (members gs) pr k (heading_by o.set).columns ws))
           (out : (k : ℕ) → is_in k w ≡ (is_in k o.wanted && not (is_in k m))) where
         -- the first matching rule of a layout is kept
-        pub owed-keep : o.every ≡ false → owed gs pr o kept (line_of n false ws ∷ ls) ≡ owed gs pr (wanting o w) (keeping m (record { number = n; text = ws }) kept) ls
+        pub owed_keep : o.every ≡ false → owed gs pr o kept (line_of n false ws ∷ ls) ≡ owed gs pr (wanting o w) (keeping m (record { number = n; text = ws }) kept) ls
         unfolding owed
-        owed-keep e = rw (more_rules some, next-fires, owes-keep (members gs) pr o kept (record { number = n; text = ws }) (rules_from ls) m w is out e) refl
+        owed_keep e = rw (more_rules some, next_fires, owes_keep (members gs) pr o kept (record { number = n; text = ws }) (rules_from ls) m w is out e) refl
 
         -- each matching rule fires
-        pub owed-fire : o.every ≡ true → owed gs pr o kept (line_of n false ws ∷ ls) ≡
+        pub owed_fire : o.every ≡ true → owed gs pr o kept (line_of n false ws ∷ ls) ≡
             kept_fires pr (wanting o w) (keeping m (record { number = n; text = ws }) kept) ++ owed gs pr o kept ls
         unfolding owed
-        owed-fire e =
-            rw (more_rules some, next-fires, owes-fire (members gs) pr o kept (record { number = n; text = ws }) (rules_from ls) m w is out e all)
+        owed_fire e =
+            rw (more_rules some, next_fires, owes_fire (members gs) pr o kept (record { number = n; text = ws }) (rules_from ls) m w is out e all)
             (append_assoc (kept_fires pr (wanting o w) (keeping m (record { number = n; text = ws }) kept)) (set_owes (members gs) pr o kept (rules_from ls)) (firings_from gs pr ls))

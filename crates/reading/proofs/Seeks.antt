@@ -40,7 +40,7 @@ use Rattle.reading.specs.declared.Sought.TheVariants as sought
 use Rattle.reading.specs.Owed.{Kept, owed}
 use Rattle.reading.specs.Left.{asked, Answers, AskedAt, LeftHeld}
 use Rattle.reading.specs.Seeking.{SetOpen, PlaceAt, PassedOver, RuleFound, SoughtAt, SoughtOf, Seeks}
-use Rattle.reading.proofs.RuleLines.{line_short, line_faults_lem, line_count, owed-blank, owed-miss, owed-keep, owed-fire}
+use Rattle.reading.proofs.RuleLines.{line_short, line_faults_lem, line_count, owed_blank, owed_miss, owed_keep, owed_fire}
 
 -- the columns of a heading can be asked at a layout
 abbrev Fits : ℕ → ℕ → List Column → Type 0
@@ -113,13 +113,13 @@ module _ (d : Text) (t rows : List ℕ) (flags : List Bool) (count : ℕ) (o : O
             let e : drop c H.columns ≡ get_or H.columns c (column_by 0) ∷ drop (c + 1) H.columns = rw add-one (drop-cons H.columns c (column_by 0) l) in
             rw (column_at o.set sized c g) at e
 
-    left-miss : x.layouts ≡ 0 → (q : Question) (n : ℕ) → Answers q n d t rows flags count → (k : ℕ) → Fits n k H.columns →
+    left_miss : x.layouts ≡ 0 → (q : Question) (n : ℕ) → Answers q n d t rows flags count → (k : ℕ) → Fits n k H.columns →
         (is_in k o.wanted && asked q k H.columns (left s from)) ≡ false
-    left-miss e q n a k f = v.tells q n a k f ∙ rw (e, in_none k) refl
+    left_miss e q n a k f = v.tells q n a k f ∙ rw (e, in_none k) refl
 
-    left-done : o.set.left ≤ c → (q : Question) (n : ℕ) → Answers q n d t rows flags count → (k : ℕ) → Fits n k H.columns →
+    left_done : o.set.left ≤ c → (q : Question) (n : ℕ) → Answers q n d t rows flags count → (k : ℕ) → Fits n k H.columns →
         is_in k x.layouts ≡ (is_in k o.wanted && asked q k H.columns (left s from))
-    left-done g q n a k f =
+    left_done g q n a k f =
         let l : length H.columns ≤ c = rw (columns_length o.set sized) g in
         sym (v.tells q n a k f ∙ rw (drop_of_length-le H.columns l, asked_done q k (left s x.at)) (and-true (is_in k x.layouts)))
 
@@ -131,17 +131,17 @@ module _ (d : Text) (t rows : List ℕ) (flags : List Bool) (count : ℕ) (o : O
       pub few : m ≤ i + 1
       pub over : (x : Texts) (gs : Groups) → Ready x gs d t rows flags count → SetOpen (layout_count (profile_of x)) o → PassedOver x gs o s at n i m
 
-    pub seek-start : at ≤ length s → n ≤ at + 1 → Seeking at n
-    seek-start h f = record { low = omega arith; high = h; few = f; over = λ x gs r u. record { faults = λ ns. refl; owes = λ kept. refl } }
+    pub seek_start : at ≤ length s → n ≤ at + 1 → Seeking at n
+    seek_start h f = record { low = omega arith; high = h; few = f; over = λ x gs r u. record { faults = λ ns. refl; owes = λ kept. refl } }
 
     answers_of : (x : Texts) (gs : Groups) → Ready x gs d t rows flags count → SetOpen (layout_count (profile_of x)) o →
         Answers (asks gs (profile_of x)) (layout_count (profile_of x)) d t rows flags count
     answers_of x gs r u = record { held = r.held; level = asks_level gs (profile_of x); some = u.some }
 
     module _ (i m : ℕ) (v : Seeking i m) where
-      pub seek-end : length s ≤ i → Seeks d t rows flags count o s at n sought.End
+      pub seek_end : length s ≤ i → Seeks d t rows flags count o s at n sought.End
       unfolding check_from
-      seek-end h =
+      seek_end h =
           record {
             place = Prim.tt {0};
             means = λ x gs r u.
@@ -150,11 +150,11 @@ module _ (d : Text) (t rows : List ℕ) (flags : List Bool) (count : ℕ) (o : O
                 (λ ns. p.faults ns ∙ rw e refl, λ kept. p.owes kept ∙ rw e refl);
           }
 
-      pub seek-heading : (from l : ℕ) → i < length s → Opens s i m true from l → Seeks d t rows flags count o s at n (sought.Heading i m from l)
-      seek-heading from l h w = record { place = (v.low, h, v.few, w); means = v.over }
+      pub seek_heading : (from l : ℕ) → i < length s → Opens s i m true from l → Seeks d t rows flags count o s at n (sought.Heading i m from l)
+      seek_heading from l h w = record { place = (v.low, h, v.few, w); means = v.over }
 
-      pub seek-refused : (k : ℕ) → LineRefused s i m o.present k → Seeks d t rows flags count o s at n (sought.Refused k m)
-      seek-refused k w = record { place = w.some; means = λ x gs r u ns. rw ((v.over x gs r u).faults ns) (w.first ns) }
+      pub seek_refused : (k : ℕ) → LineRefused s i m o.present k → Seeks d t rows flags count o s at n (sought.Refused k m)
+      seek_refused k w = record { place = w.some; means = λ x gs r u ns. rw ((v.over x gs r u).faults ns) (w.first ns) }
 
       -- a line that is no heading, and is not refused
       module _ (sized : SetSized o.set) (head : (o.wanted ≡ 0 → ⊥) → o.present ≡ present_of (heading_by o.set))
@@ -164,11 +164,11 @@ module _ (d : Text) (t rows : List ℕ) (flags : List Bool) (count : ℕ) (o : O
             let b = line_count o.present m (left s from) w.fault (heading_by o.set) (head z) e in
             rw (columns_length o.set sized, components_length o.set sized) at b
 
-        enough-of : (o.wanted ≡ 0 → ⊥) → (length (left s from) ≡ 0 → ⊥) → length H.columns ≤ length (left s from)
-        enough-of z e = let a = columns_length o.set sized in omega (arith, count_is z e, a)
+        enough_of : (o.wanted ≡ 0 → ⊥) → (length (left s from) ≡ 0 → ⊥) → length H.columns ≤ length (left s from)
+        enough_of z e = let a = columns_length o.set sized in omega (arith, count_is z e, a)
 
-        pub seek-miss : y.layouts ≡ 0 → Seeking next n'
-        seek-miss e =
+        pub seek_miss : y.layouts ≡ 0 → Seeking next n'
+        seek_miss e =
             record {
               low = omega (arith, v.low, w.on);
               high = w.high;
@@ -185,15 +185,15 @@ module _ (d : Text) (t rows : List ℕ) (flags : List Bool) (count : ℕ) (o : O
                 (a : Bool) → eqb (length (left s from)) 0 ≡ a → (b : Bool) → eqb o.wanted 0 ≡ b →
                 owed gs (profile_of x) o kept (line_of m false (left s from) ∷ follow s next n') ≡ owed gs (profile_of x) o kept (follow s next n')
             passed x gs r u kept true z b f =
-                owed-blank o.present m (left s from) w.fault gs (profile_of x) o kept (follow s next n') (eqb-true (length (left s from)) 0 z)
+                owed_blank o.present m (left s from) w.fault gs (profile_of x) o kept (follow s next n') (eqb-true (length (left s from)) 0 z)
             passed x gs r u kept false z true f =
-                owed-miss o.present m (left s from) w.fault gs (profile_of x) o kept (follow s next n') (eqb-false (length (left s from)) 0 z) u.all
+                owed_miss o.present m (left s from) w.fault gs (profile_of x) o kept (follow s next n') (eqb-false (length (left s from)) 0 z) u.all
                 (λ k a b. rw (eqb-true o.wanted 0 f, in_none k) refl)
             passed x gs r u kept false z false f =
-                owed-miss o.present m (left s from) w.fault gs (profile_of x) o kept (follow s next n') (eqb-false (length (left s from)) 0 z) u.all
+                owed_miss o.present m (left s from) w.fault gs (profile_of x) o kept (follow s next n') (eqb-false (length (left s from)) 0 z) u.all
                 (λ k a b.
-                rw (← asked_rule gs (profile_of x) k H.columns (left s from) (enough-of (eqb-false o.wanted 0 f) (eqb-false (length (left s from)) 0 z)))
-                (left-miss sized from c y g e (asks gs (profile_of x)) (layout_count (profile_of x)) (answers_of x gs r u) k (λ j. u.among j k a b)))
+                rw (← asked_rule gs (profile_of x) k H.columns (left s from) (enough_of (eqb-false o.wanted 0 f) (eqb-false (length (left s from)) 0 z)))
+                (left_miss sized from c y g e (asks gs (profile_of x)) (layout_count (profile_of x)) (answers_of x gs r u) k (λ j. u.among j k a b)))
 
         module _ (done : o.set.left ≤ c) (c-high : c ≤ o.set.left) (hit : y.layouts ≡ 0 → ⊥) where
           wanted : o.wanted ≡ 0 → ⊥
@@ -202,17 +202,17 @@ module _ (d : Text) (t rows : List ℕ) (flags : List Bool) (count : ℕ) (o : O
           nonblank : length (left s from) ≡ 0 → ⊥
           nonblank e = absurd (omega (arith, g.enough hit, sized.some, e))
 
-          is-left : c ≡ o.set.left
-          is-left = omega arith
+          is_left : c ≡ o.set.left
+          is_left = omega arith
 
-          behind-is : left s y.at ≡ drop o.set.left (left s from)
-          behind-is = g.behind hit ∙ ap (λ (j : ℕ). drop j (left s from)) is-left
+          behind_is : left s y.at ≡ drop o.set.left (left s from)
+          behind_is = g.behind hit ∙ ap (λ (j : ℕ). drop j (left s from)) is_left
 
           matched : (x : Texts) (gs : Groups) → Ready x gs d t rows flags count → SetOpen (layout_count (profile_of x)) o → (k : ℕ) → o.first ≤ k → k < o.first + o.count →
               is_in k y.layouts ≡ (is_in k o.wanted && rule_matches (members gs) (profile_of x) k H.columns (left s from))
           matched x gs r u k a b =
-              rw (← asked_rule gs (profile_of x) k H.columns (left s from) (enough-of wanted nonblank))
-              (left-done sized from c y g done (asks gs (profile_of x)) (layout_count (profile_of x)) (answers_of x gs r u) k (λ j. u.among j k a b))
+              rw (← asked_rule gs (profile_of x) k H.columns (left s from) (enough_of wanted nonblank))
+              (left_done sized from c y g done (asks gs (profile_of x)) (layout_count (profile_of x)) (answers_of x gs r u) k (λ j. u.among j k a b))
 
           pub seek_found : Seeks d t rows flags count o s at n (sought.Rule y.at y.layouts next n')
           unfolding right_words
@@ -221,8 +221,8 @@ module _ (d : Text) (t rows : List ℕ) (flags : List Bool) (count : ℕ) (o : O
                 place = (
                   record {
                     high = g.high;
-                    count = ap length behind-is ∙ (length-drop o.set.left (left s from) ∙ omega (arith, count_is wanted nonblank));
-                    short = rw behind-is (any_drop too_long o.set.left (left s from) (line_short o.present m (left s from) w.fault));
+                    count = ap length behind_is ∙ (length-drop o.set.left (left s from) ∙ omega (arith, count_is wanted nonblank));
+                    short = rw behind_is (any_drop too_long o.set.left (left s from) (line_short o.present m (left s from) w.fault));
                   },
                   wanted,
                   omega (arith, v.low, w.on),
@@ -233,12 +233,12 @@ module _ (d : Text) (t rows : List ℕ) (flags : List Bool) (count : ℕ) (o : O
                     let p = v.over x gs r u in
                     record {
                       rule = record { number = m; text = left s from };
-                      words = rw (behind-is, drop-drop 1 o.set.left (left s from), columns_length o.set sized) refl;
+                      words = rw (behind_is, drop-drop 1 o.set.left (left s from), columns_length o.set sized) refl;
                       faults = λ ns. p.faults ns ∙ rw w.read (line_faults_lem o.present m (left s from) w.fault ns (follow s next n'));
                       keeps = λ e kept q out. p.owes kept ∙ rw w.read
-                          (owed-keep o.present m (left s from) w.fault gs (profile_of x) o kept (follow s next n') nonblank u.all y.layouts q (matched x gs r u) out e);
+                          (owed_keep o.present m (left s from) w.fault gs (profile_of x) o kept (follow s next n') nonblank u.all y.layouts q (matched x gs r u) out e);
                       fires = λ e kept q out. p.owes kept ∙ rw w.read
-                          (owed-fire o.present m (left s from) w.fault gs (profile_of x) o kept (follow s next n') nonblank u.all y.layouts q (matched x gs r u) out e);
+                          (owed_fire o.present m (left s from) w.fault gs (profile_of x) o kept (follow s next n') nonblank u.all y.layouts q (matched x gs r u) out e);
                     };
               }
 

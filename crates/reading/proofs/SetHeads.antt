@@ -73,17 +73,17 @@ module _ (n : ℕ) (s : Text) (r : Reading) (from m : ℕ) (h : AtHeading s r fr
     entry : entry_of (line_of r.line true (left s from)) ≡ set_of (heading_by l.set)
     entry = entry_any r.line true (left s from) ∙ (v.right z).0
 
-    owes-all : (gs : _) (p : Texts) → n ≡ Rattle.profile.specs.Profile.layout_count (profile_of p) → (kept : Kept) →
+    owes_all : (gs : _) (p : Texts) → n ≡ Rattle.profile.specs.Profile.layout_count (profile_of p) → (kept : Kept) →
         owed gs (profile_of p) r.set kept (follow s r.at r.line) ≡ owed gs (profile_of p) o kept (follow s l.next l.after)
-    owes-all gs p c kept =
+    owes_all gs p c kept =
         ap (λ (y : OpenSet). owed gs (profile_of p) y kept (follow s r.at r.line)) h.closed
         ∙ (owed_closed gs p r.set.present r.set.set kept (follow s r.at r.line)
         ∙ (ap (firings_from gs (profile_of p)) line
         ∙ (fires_set gs (profile_of p) r.line (left s from) (follow s l.next l.after) (heading_by l.set) entry
         ∙ sym (owed_is gs p o kept (follow s l.next l.after) ∙ rw (q.owes gs (profile_of p) (sym c) kept (rules_from (follow s l.next l.after))) refl))))
 
-    pub set-opened : SetRead n s r (next_at r l.next l.after o r.places r.cursors)
-    set-opened =
+    pub set_opened : SetRead n s r (next_at r l.next l.after o r.places r.cursors)
+    set_opened =
         record {
           steps = λ d t rows flags b x w u.
               record {
@@ -104,7 +104,7 @@ module _ (n : ℕ) (s : Text) (r : Reading) (from m : ℕ) (h : AtHeading s r fr
                     };
                 further = λ y. omega (arith, h.inside, h.opens.low, v.onwards, v.on);
                 means = λ w₀ q₀ p a.
-                    let e = owes-all a.groups p a.layouts a.rules in
+                    let e = owes_all a.groups p a.layouts a.rules in
                     record {
                       refused = λ y. absurd (y refl);
                       on = λ y.

@@ -71,31 +71,31 @@ module _ (n : ℕ) (s d : Text) (t rows : List ℕ) (flags : List Bool) (b : Lis
   -- the kept rules of a set are fired
   module _ (o : OpenSet) (ps : List ℕ) (x' w' : Text) (q' : Cursors) (long : length x' ≡ length x)
       (f : KeptFired (profile_at (take r.used d) b n) o s ps w w' r.cursors q') where
-    fired-long : length w' ≡ length w
-    fired-long = ap length (f.bytes (λ k. k)) ∙ length_run w r.cursors _
+    fired_long : length w' ≡ length w
+    fired_long = ap length (f.bytes (λ k. k)) ∙ length_run w r.cursors _
 
-    fired-low : Low q'.at
-    fired-low = rw (f.places (λ k. k)) (low_run r.cursors _ v.fires.low)
+    fired_low : Low q'.at
+    fired_low = rw (f.places (λ k. k)) (low_run r.cursors _ v.fires.low)
 
-    fired-fires : Fires (take r.used d) b n 0 x' w' q'
-    fired-fires = fires_on _ _ _ _ _ _ _ _ _ _ _ v.fires (omega arith) long fired-long fired-low
+    fired_fires : Fires (take r.used d) b n 0 x' w' q'
+    fired_fires = fires_on _ _ _ _ _ _ _ _ _ _ _ v.fires (omega arith) long fired_long fired_low
 
     -- with the rest, for a profile whose whole is left
-    fired-writes : (w₀ : Text) (q₀ : Cursors) (p : Texts) (u : ReadTo w₀ q₀ n s d t rows flags b w p r) (kept : Kept) (rest : List Firing) →
+    fired_writes : (w₀ : Text) (q₀ : Cursors) (p : Texts) (u : ReadTo w₀ q₀ n s d t rows flags b w p r) (kept : Kept) (rest : List Firing) →
         ((k : ℕ) → o.first ≤ k → k < o.first + o.count → is_in k o.wanted ≡ false → drop 1 (left s (get_or ps k 0)) ≡ right_words (heading_by o.set) (kept k).text) →
         owed u.groups (profile_of p) r.set u.rules (follow s r.at r.line) ≡ kept_fires (profile_of p) o kept ++ rest →
         (length w' ≡ length w₀) × (run_buf w₀ q₀ (file_firings s (profile_of p)) ≡ run_buf w' q' rest) × (run_cur q₀ (file_firings s (profile_of p)) ≡ run_cur q' rest)
-    fired-writes w₀ q₀ p u kept rest ws e =
+    fired_writes w₀ q₀ p u kept rest ws e =
         let k = kept_told p (take r.used d) b n u.values u.layouts v.fires.expands.few u.variants o s ps kept ws w w' r.cursors q' f in (
-          fired-long ∙ u.writes.long,
+          fired_long ∙ u.writes.long,
           u.writes.bytes ∙ (ap (run_buf w r.cursors) e ∙ rw (buf_append, ← k.0, ← k.1) refl),
           u.writes.places ∙ (ap (run_cur r.cursors) e ∙ rw (cur_append, ← k.1) refl),
         )
 
   -- the set is over
   module _ (x' w' : Text) (q' : Cursors) (long : length x' ≡ length x) (f : KeptFired (profile_at (take r.used d) b n) r.set s r.places w w' r.cursors q') (i m : ℕ) where
-    pub closed-sound : i ≤ length s → m ≤ i + 1 → Sound n s d t rows flags b x' w' (closed_at r i m q')
-    closed-sound h l =
+    pub closed_sound : i ≤ length s → m ≤ i + 1 → Sound n s d t rows flags b x' w' (closed_at r i m q')
+    closed_sound h l =
         record {
           high = h;
           few = l;
@@ -105,18 +105,18 @@ module _ (n : ℕ) (s d : Text) (t rows : List ℕ) (flags : List Bool) (b : Lis
           tables = v.tables;
           set = closed_open n r.set v.set;
           kept = closed_kept r.set.present r.set.set s r.places v.kept.size;
-          fires = fired-fires r.set r.places x' w' q' long f;
+          fires = fired_fires r.set r.places x' w' q' long f;
         }
 
-    pub closed-long : length w' ≡ length w
-    closed-long = fired-long r.set r.places x' w' q' long f
+    pub closed_long : length w' ≡ length w
+    closed_long = fired_long r.set r.places x' w' q' long f
 
-    pub closed-read : (w₀ : Text) (q₀ : Cursors) (p : Texts) (u : ReadTo w₀ q₀ n s d t rows flags b w p r) →
+    pub closed_read : (w₀ : Text) (q₀ : Cursors) (p : Texts) (u : ReadTo w₀ q₀ n s d t rows flags b w p r) →
         check_from (names_of u.groups) r.set.present (follow s r.at r.line) ≡ check_from (names_of u.groups) r.set.present (follow s i m) →
         owed u.groups (profile_of p) r.set u.rules (follow s r.at r.line) ≡ kept_fires (profile_of p) r.set u.rules ++ firings_from u.groups (profile_of p) (follow s i m) →
         ReadTo w₀ q₀ n s d t rows flags b w' p (closed_at r i m q')
-    closed-read w₀ q₀ p u c e =
-        let y = fired-writes r.set r.places x' w' q' long f w₀ q₀ p u u.rules (firings_from u.groups (profile_of p) (follow s i m)) u.words e in
+    closed_read w₀ q₀ p u c e =
+        let y = fired_writes r.set r.places x' w' q' long f w₀ q₀ p u u.rules (firings_from u.groups (profile_of p) (follow s i m)) u.words e in
         let z = owed_closed u.groups p r.set.present r.set.set u.rules (follow s i m) in
         record {
           groups = u.groups;
@@ -142,8 +142,8 @@ module _ (n : ℕ) (s d : Text) (t rows : List ℕ) (flags : List Bool) (b : Lis
         go true false p q y = absurd (no (sym y))
         go false false p q y = rest p q
 
-    pub kept-places : KeptPlaces (wanting r.set o') s ps'
-    kept-places =
+    pub kept_places : KeptPlaces (wanting r.set o') s ps'
+    kept_places =
         record {
           size = e.size;
           range = v.kept.range;
@@ -153,27 +153,27 @@ module _ (n : ℕ) (s d : Text) (t rows : List ℕ) (flags : List Bool) (b : Lis
               (λ p q. let y : get_or ps' k 0 ≡ get_or r.places k 0 = e.at k a l ∙ rw q refl in rw y (v.kept.place k a l p));
         }
 
-    found-for : (w₀ : Text) (q₀ : Cursors) (p : Texts) (u : ReadTo w₀ q₀ n s d t rows flags b w p r) → RuleFound p u.groups r.set s r.at r.line place m next n'
-    found-for w₀ q₀ p u = g.means p u.groups u.ready (rw (← u.layouts) v.set)
+    found_for : (w₀ : Text) (q₀ : Cursors) (p : Texts) (u : ReadTo w₀ q₀ n s d t rows flags b w p r) → RuleFound p u.groups r.set s r.at r.line place m next n'
+    found_for w₀ q₀ p u = g.means p u.groups u.ready (rw (← u.layouts) v.set)
 
-    words-kept : (w₀ : Text) (q₀ : Cursors) (p : Texts) (u : ReadTo w₀ q₀ n s d t rows flags b w p r) → (k : ℕ) → r.set.first ≤ k → k < r.set.first + r.set.count → is_in k o' ≡ false →
-        drop 1 (left s (get_or ps' k 0)) ≡ right_words (heading_by r.set.set) (keeping m (found-for w₀ q₀ p u).rule u.rules k).text
+    words_kept : (w₀ : Text) (q₀ : Cursors) (p : Texts) (u : ReadTo w₀ q₀ n s d t rows flags b w p r) → (k : ℕ) → r.set.first ≤ k → k < r.set.first + r.set.count → is_in k o' ≡ false →
+        drop 1 (left s (get_or ps' k 0)) ≡ right_words (heading_by r.set.set) (keeping m (found_for w₀ q₀ p u).rule u.rules k).text
     unfolding keeping
-    words-kept w₀ q₀ p u k a l z =
+    words_kept w₀ q₀ p u k a l z =
         step_kept k z
         (λ q.
         let y : get_or ps' k 0 ≡ place = e.at k a l ∙ rw q refl in
-        let c : cond (is_in k m) (found-for w₀ q₀ p u).rule (u.rules k) ≡ (found-for w₀ q₀ p u).rule = rw q refl in
-        ap (λ (i : ℕ). drop 1 (left s i)) y ∙ ((found-for w₀ q₀ p u).words ∙ ap (λ (y : Rule). right_words (heading_by r.set.set) y.text) (sym c)))
+        let c : cond (is_in k m) (found_for w₀ q₀ p u).rule (u.rules k) ≡ (found_for w₀ q₀ p u).rule = rw q refl in
+        ap (λ (i : ℕ). drop 1 (left s i)) y ∙ ((found_for w₀ q₀ p u).words ∙ ap (λ (y : Rule). right_words (heading_by r.set.set) y.text) (sym c)))
         (λ z q.
         let y : get_or ps' k 0 ≡ get_or r.places k 0 = e.at k a l ∙ rw q refl in
-        let c : cond (is_in k m) (found-for w₀ q₀ p u).rule (u.rules k) ≡ u.rules k = rw q refl in
+        let c : cond (is_in k m) (found_for w₀ q₀ p u).rule (u.rules k) ≡ u.rules k = rw q refl in
         ap (λ (i : ℕ). drop 1 (left s i)) y ∙ (u.words k a l z ∙ ap (λ (y : Rule). right_words (heading_by r.set.set) y.text) (sym c)))
 
     -- it is kept
     module _ (once : r.set.every ≡ false) where
-      keep-sound : Sound n s d t rows flags b x w (next_at r next n' (wanting r.set o') ps' r.cursors)
-      keep-sound =
+      keep_sound : Sound n s d t rows flags b x w (next_at r next n' (wanting r.set o') ps' r.cursors)
+      keep_sound =
           record {
             high = g.place.3;
             few = g.place.4;
@@ -191,14 +191,14 @@ module _ (n : ℕ) (s d : Text) (t rows : List ℕ) (flags : List Bool) (b : Lis
                   all = record { all = λ z. absurd (no (sym once ∙ z)) };
                   some = v.set.some;
                 };
-            kept = kept-places;
+            kept = kept_places;
             fires = v.fires;
           }
 
-      keep-read : (w₀ : Text) (q₀ : Cursors) (p : Texts) (u : ReadTo w₀ q₀ n s d t rows flags b w p r) →
+      keep_read : (w₀ : Text) (q₀ : Cursors) (p : Texts) (u : ReadTo w₀ q₀ n s d t rows flags b w p r) →
           ReadTo w₀ q₀ n s d t rows flags b w p (next_at r next n' (wanting r.set o') ps' r.cursors)
-      keep-read w₀ q₀ p u =
-          let f = found-for w₀ q₀ p u in
+      keep_read w₀ q₀ p u =
+          let f = found_for w₀ q₀ p u in
           let y = f.keeps once u.rules o' out in
           record {
             groups = u.groups;
@@ -208,7 +208,7 @@ module _ (n : ℕ) (s d : Text) (t rows : List ℕ) (flags : List Bool) (b : Lis
             layouts = u.layouts;
             variants = u.variants;
             number = u.number;
-            words = words-kept w₀ q₀ p u;
+            words = words_kept w₀ q₀ p u;
             faults = u.faults ∙ f.faults (names_of u.groups);
             writes =
                 record {
@@ -218,22 +218,22 @@ module _ (n : ℕ) (s d : Text) (t rows : List ℕ) (flags : List Bool) (b : Lis
                 };
           }
 
-      pub step-keep : Stepped n s d d t t rows rows flags flags b x x w w r (next_at r next n' (wanting r.set o') ps' r.cursors)
-      step-keep =
+      pub step_keep : Stepped n s d d t t rows rows flags flags b x x w w r (next_at r next n' (wanting r.set o') ps' r.cursors)
+      step_keep =
           record {
             text = refl;
             scratch = refl;
             buffer = refl;
-            sound = λ z. keep-sound;
+            sound = λ z. keep_sound;
             further = λ z. g.place.2;
-            means = λ w₀ q₀ p u. record { refused = λ z. absurd (z refl); on = λ z. keep-read w₀ q₀ p u; end = λ z y. absurd (no (sym y)) };
+            means = λ w₀ q₀ p u. record { refused = λ z. absurd (z refl); on = λ z. keep_read w₀ q₀ p u; end = λ z y. absurd (no (sym y)) };
           }
 
     -- each matching rule fires at once
     module _ (each : r.set.every ≡ true) (x' w' : Text) (q' : Cursors) (long : length x' ≡ length x)
         (f : KeptFired (profile_at (take r.used d) b n) (wanting r.set o') s ps' w w' r.cursors q') where
-      fire-sound : Sound n s d t rows flags b x' w' (next_at r next n' r.set ps' q')
-      fire-sound =
+      fire_sound : Sound n s d t rows flags b x' w' (next_at r next n' r.set ps' q')
+      fire_sound =
           record {
             high = g.place.3;
             few = g.place.4;
@@ -248,14 +248,14 @@ module _ (n : ℕ) (s d : Text) (t rows : List ℕ) (flags : List Bool) (b : Lis
                   range = v.kept.range;
                   place = λ k a l z. absurd (no (sym z ∙ v.set.all.all each k a l));
                 };
-            fires = fired-fires (wanting r.set o') ps' x' w' q' long f;
+            fires = fired_fires (wanting r.set o') ps' x' w' q' long f;
           }
 
-      fire-read : (w₀ : Text) (q₀ : Cursors) (p : Texts) (u : ReadTo w₀ q₀ n s d t rows flags b w p r) → ReadTo w₀ q₀ n s d t rows flags b w' p (next_at r next n' r.set ps' q')
-      fire-read w₀ q₀ p u =
-          let h = found-for w₀ q₀ p u in
-          let y = fired-writes (wanting r.set o') ps' x' w' q' long f w₀ q₀ p u (keeping m h.rule u.rules)
-          (owed u.groups (profile_of p) r.set u.rules (follow s next n')) (words-kept w₀ q₀ p u) (h.fires each u.rules o' out) in
+      fire_read : (w₀ : Text) (q₀ : Cursors) (p : Texts) (u : ReadTo w₀ q₀ n s d t rows flags b w p r) → ReadTo w₀ q₀ n s d t rows flags b w' p (next_at r next n' r.set ps' q')
+      fire_read w₀ q₀ p u =
+          let h = found_for w₀ q₀ p u in
+          let y = fired_writes (wanting r.set o') ps' x' w' q' long f w₀ q₀ p u (keeping m h.rule u.rules)
+          (owed u.groups (profile_of p) r.set u.rules (follow s next n')) (words_kept w₀ q₀ p u) (h.fires each u.rules o' out) in
           record {
             groups = u.groups;
             rules = u.rules;
@@ -269,15 +269,15 @@ module _ (n : ℕ) (s d : Text) (t rows : List ℕ) (flags : List Bool) (b : Lis
             writes = record { long = y.0; bytes = y.1; places = y.2 };
           }
 
-      pub step-fire : Stepped n s d d t t rows rows flags flags b x x' w w' r (next_at r next n' r.set ps' q')
-      step-fire =
+      pub step_fire : Stepped n s d d t t rows rows flags flags b x x' w w' r (next_at r next n' r.set ps' q')
+      step_fire =
           record {
             text = refl;
             scratch = long;
-            buffer = fired-long (wanting r.set o') ps' x' w' q' long f;
-            sound = λ z. fire-sound;
+            buffer = fired_long (wanting r.set o') ps' x' w' q' long f;
+            sound = λ z. fire_sound;
             further = λ z. g.place.2;
-            means = λ w₀ q₀ p u. record { refused = λ z. absurd (z refl); on = λ z. fire-read w₀ q₀ p u; end = λ z y. absurd (no (sym y)) };
+            means = λ w₀ q₀ p u. record { refused = λ z. absurd (z refl); on = λ z. fire_read w₀ q₀ p u; end = λ z y. absurd (no (sym y)) };
           }
 
   -- a line is refused
@@ -306,12 +306,12 @@ module _ (n : ℕ) (s d : Text) (t rows : List ℕ) (flags : List Bool) (b : Lis
         record {
           text = refl;
           scratch = long;
-          buffer = fired-long r.set r.places x' w' q' long f;
+          buffer = fired_long r.set r.places x' w' q' long f;
           sound = λ z. absurd (no z);
           further = λ z. absurd (no z);
           means = λ w₀ q₀ p u.
               let h = g.means p u.groups u.ready (rw (← u.layouts) v.set) in
-              let y = fired-writes r.set r.places x' w' q' long f w₀ q₀ p u u.rules [] u.words
+              let y = fired_writes r.set r.places x' w' q' long f w₀ q₀ p u u.rules [] u.words
               (h.1 u.rules ∙ owed_end u.groups (profile_of p) r.set v.set.all u.rules) in
               record {
                 refused = λ z. absurd (z refl);
@@ -328,24 +328,24 @@ module _ (n : ℕ) (s d : Text) (t rows : List ℕ) (flags : List Bool) (b : Lis
   -- a heading: the set before it is over
   module _ (i l from m : ℕ) (g : Seeks (take r.used d) t rows flags r.count r.set s r.at r.line (sought.Heading i l from m)) (x' w' : Text) (q' : Cursors)
       (long : length x' ≡ length x) (f : KeptFired (profile_at (take r.used d) b n) r.set s r.places w w' r.cursors q') where
-    pub heading-sound : Sound n s d t rows flags b x' w' (closed_at r i l q')
-    heading-sound = closed-sound x' w' q' long f i l (omega (arith, g.place.1)) g.place.2
+    pub heading_sound : Sound n s d t rows flags b x' w' (closed_at r i l q')
+    heading_sound = closed_sound x' w' q' long f i l (omega (arith, g.place.1)) g.place.2
 
-    heading-read : (w₀ : Text) (q₀ : Cursors) (p : Texts) (u : ReadTo w₀ q₀ n s d t rows flags b w p r) → ReadTo w₀ q₀ n s d t rows flags b w' p (closed_at r i l q')
-    heading-read w₀ q₀ p u =
+    heading_read : (w₀ : Text) (q₀ : Cursors) (p : Texts) (u : ReadTo w₀ q₀ n s d t rows flags b w p r) → ReadTo w₀ q₀ n s d t rows flags b w' p (closed_at r i l q')
+    heading_read w₀ q₀ p u =
         let h = g.means p u.groups u.ready (rw (← u.layouts) v.set) in
         let c = heading_first s i l from m g.place.1 g.place.3 in
-        closed-read x' w' q' long f i l w₀ q₀ p u (h.faults (names_of u.groups))
+        closed_read x' w' q' long f i l w₀ q₀ p u (h.faults (names_of u.groups))
         (h.owes u.rules ∙ rw c (owed_close u.groups (profile_of p) r.set v.set.all u.rules l (left s from) (ahead s from m)))
 
-    pub step-heading : (d' : Text) (t' rows' : List ℕ) (flags' : List Bool) (r' : Reading) → Stepped n s d d' t t' rows rows' flags flags' b x' x' w' w' (closed_at r i l q') r' →
+    pub step_heading : (d' : Text) (t' rows' : List ℕ) (flags' : List Bool) (r' : Reading) → Stepped n s d d' t t' rows rows' flags flags' b x' x' w' w' (closed_at r i l q') r' →
         Stepped n s d d' t t' rows rows' flags flags' b x x' w w' r r'
-    step-heading d' t' rows' flags' r' a =
+    step_heading d' t' rows' flags' r' a =
         record {
           text = a.text;
           scratch = long;
-          buffer = closed-long x' w' q' long f i l;
+          buffer = closed_long x' w' q' long f i l;
           sound = a.sound;
           further = λ z. omega (arith, a.further z, g.place.0);
-          means = λ w₀ q₀ p u. a.means w₀ q₀ p (heading-read w₀ q₀ p u);
+          means = λ w₀ q₀ p u. a.means w₀ q₀ p (heading_read w₀ q₀ p u);
         }

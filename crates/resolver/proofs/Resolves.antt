@@ -81,20 +81,20 @@ module _ (room : ℕ) (f : Text) (t : Texts) where
   profile_refused r e h = ap outcome (ap refused e ∙ refused_first (profile_refusals t) _ (ten_texts f t) (λ z. h (ap (λ (x : Refusal). x.number) e ∙ z)))
 
   module _ (clear : profile_refusals t ≡ []) where
-    pub file-refused : (r : Refusal) → r ≡ first_refusal (file_refusals f) → (r.number ≡ 0 → ⊥) → outcome (refused r) ≡ outcome (answer room f t)
+    pub file_refused : (r : Refusal) → r ≡ first_refusal (file_refusals f) → (r.number ≡ 0 → ⊥) → outcome (refused r) ≡ outcome (answer room f t)
     unfolding answer refusals
-    file-refused r e h =
+    file_refused r e h =
         rw clear (ap outcome (ap refused e ∙ refused_first (file_refusals f) _ (ten_texts f t) (λ z. h (ap (λ (x : Refusal). x.number) e ∙ z))))
 
-    pub room-refused : file_refusals f ≡ [] → no_room room (total (ten_texts f t)) ≡ true →
+    pub room_refused : file_refusals f ≡ [] → no_room room (total (ten_texts f t)) ≡ true →
         outcome (refused (record { number = 11; place = 0 })) ≡ outcome (answer room f t)
     unfolding answer refusals refused_if first_of
-    room-refused lines h = rw (clear, lines, h) refl
+    room_refused lines h = rw (clear, lines, h) refl
 
-    pub all-accepted : (ns : List ℕ) → file_refusals f ≡ [] → no_room room (total (ten_texts f t)) ≡ false → ns ≡ map length (ten_texts f t) →
+    pub all_accepted : (ns : List ℕ) → file_refusals f ≡ [] → no_room room (total (ten_texts f t)) ≡ false → ns ≡ map length (ten_texts f t) →
         record { number = 0; place = 0; lengths = ns } ≡ outcome (answer room f t)
     unfolding answer refusals refused_if first_of outcome number_of place_of lengths_of
-    all-accepted ns lines h e = rw (clear, lines, h, e) refl
+    all_accepted ns lines h e = rw (clear, lines, h, e) refl
 
 -- A refusal leaves no texts in a stage; an accepted answer leaves each text that is not too long for its region.
 module _ (room : ℕ) (f : Text) (t : Texts) (d : Text) where

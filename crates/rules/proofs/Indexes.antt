@@ -56,31 +56,31 @@ module _ (w : Text) (l : length w ≡ 3) where
   numbered_bare n = sym (in_three w l ∙ rw (ne_eqb (get_or w 0 0) 91 n))
 
   module _ (e : get_or w 0 0 ≡ 91) where
-    numbered-out : (49 ≤ get_or w 1 0 → get_or w 1 0 < 53 → ⊥) → index.Wrong ≡ numbered_in w (up_from most_layouts 1)
+    numbered_out : (49 ≤ get_or w 1 0 → get_or w 1 0 < 53 → ⊥) → index.Wrong ≡ numbered_in w (up_from most_layouts 1)
     unfolding bracketed
-    numbered-out n =
+    numbered_out n =
         let x : (k : ℕ) → 49 ≤ k → k < 53 → eqb (get_or w 1 0) k ≡ false = λ k h l. ne_eqb (get_or w 1 0) k (λ q. n (omega arith) (omega arith)) in
         sym (in_three w l ∙ rw (e, x 49 (omega arith) (omega arith), x 50 (omega arith) (omega arith), x 51 (omega arith) (omega arith), x 52 (omega arith) (omega arith)))
 
-    pub numbered-low : get_or w 1 0 < 49 → index.Wrong ≡ numbered_in w (up_from most_layouts 1)
-    numbered-low h = numbered-out (λ a b. omega arith)
+    pub numbered_low : get_or w 1 0 < 49 → index.Wrong ≡ numbered_in w (up_from most_layouts 1)
+    numbered_low h = numbered_out (λ a b. omega arith)
 
-    pub numbered-high : 53 ≤ get_or w 1 0 → index.Wrong ≡ numbered_in w (up_from most_layouts 1)
-    numbered-high h = numbered-out (λ a b. omega arith)
+    pub numbered_high : 53 ≤ get_or w 1 0 → index.Wrong ≡ numbered_in w (up_from most_layouts 1)
+    numbered_high h = numbered_out (λ a b. omega arith)
 
     module _ (h : 49 ≤ get_or w 1 0) (k : get_or w 1 0 < 53) where
-      in-range : numbered_in w (up_from most_layouts 1) ≡ cond (eqb (get_or w 2 0) 93) (index.Numbered (get_or w 1 0 - 48)) index.Wrong
-      in-range =
+      in_range : numbered_in w (up_from most_layouts 1) ≡ cond (eqb (get_or w 2 0) 93) (index.Numbered (get_or w 1 0 - 48)) index.Wrong
+      in_range =
           let x : get_or w 1 0 ≡ 49 + (get_or w 1 0 - 49) = omega arith in
           let y : get_or w 1 0 - 49 + 1 ≡ get_or w 1 0 - 48 = omega arith in
           in_three w l ∙ ap (λ (a : ℕ). bracketed a (get_or w 1 0) (get_or w 2 0)) e ∙ ap (λ (b : ℕ). bracketed 91 b (get_or w 2 0)) x
           ∙ digit (get_or w 1 0 - 49) (get_or w 2 0) (omega arith) ∙ rw y
 
-      pub numbered-open : (get_or w 2 0 ≡ 93 → ⊥) → index.Wrong ≡ numbered_in w (up_from most_layouts 1)
-      numbered-open n = sym (in-range ∙ rw (ne_eqb (get_or w 2 0) 93 n))
+      pub numbered_open : (get_or w 2 0 ≡ 93 → ⊥) → index.Wrong ≡ numbered_in w (up_from most_layouts 1)
+      numbered_open n = sym (in_range ∙ rw (ne_eqb (get_or w 2 0) 93 n))
 
-      pub numbered-closed : get_or w 2 0 ≡ 93 → (n : ℕ) → n ≡ get_or w 1 0 - 48 → index.Numbered n ≡ numbered_in w (up_from most_layouts 1)
-      numbered-closed q n f = sym (in-range ∙ rw (q, f))
+      pub numbered_closed : get_or w 2 0 ≡ 93 → (n : ℕ) → n ≡ get_or w 1 0 - 48 → index.Numbered n ≡ numbered_in w (up_from most_layouts 1)
+      numbered_closed q n f = sym (in_range ∙ rw (q, f))
 
 pub same_none : (w : Text) → length w ≡ 0 → same w [] ≡ true
 unfolding same

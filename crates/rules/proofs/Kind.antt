@@ -93,6 +93,6 @@ module _ (w : Text) (o : Bool) (a : o ≡ ordinary w) where
     unfolding left_word
     left_star f = rw (← a, e, ← b, f)
 
-    pub left-group : s ≡ false → (g : Bool) → g ≡ is_group_name w → g ≡ left_word w
+    pub left_group : s ≡ false → (g : Bool) → g ≡ is_group_name w → g ≡ left_word w
     unfolding left_word
-    left-group f g k = rw (← a, e, ← b, f) k
+    left_group f g k = rw (← a, e, ← b, f) k

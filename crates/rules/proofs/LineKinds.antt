@@ -62,16 +62,16 @@ module _ (ws : Words) (t : Tally) (v : Tallied ws t) where
       set_shapeless ws (shape_by ws ∙ rw (ne_eqb (length (before ws)) 0 (λ z. n (v.first ∙ z)), eq-eqb _ _ e))
 
   module _ (n : t.first ≡ 0 → ⊥) (l : t.first + 1 < t.count) where
-    shape-again : (b : Bool) → t.again ≡ b → set_shape ws ≡ not b
-    shape-again b h =
+    shape_again : (b : Bool) → t.again ≡ b → set_shape ws ≡ not b
+    shape_again b h =
         shape_by ws ∙
         rw (ne_eqb (length (before ws)) 0 (λ z. n (v.first ∙ z)), ne_eqb (length ws - (length (before ws) + 1)) 0 (λ z. omega (arith, v.first, v.count, z)), sym v.again ∙ h)
 
-    pub set-again : t.again ≡ true → set_entry ws ≡ wrong 6
-    set-again h = set_shapeless ws (shape-again true h)
+    pub set_again : t.again ≡ true → set_entry ws ≡ wrong 6
+    set_again h = set_shapeless ws (shape_again true h)
 
-    pub set-shaped : t.again ≡ false → set_shape ws ≡ true
-    set-shaped h = shape-again false h
+    pub set_shaped : t.again ≡ false → set_shape ws ≡ true
+    set_shaped h = shape_again false h
 
 -- headings
 
@@ -118,14 +118,14 @@ module _ (n : ℕ) (h : Bool) (ws : Words) where
   line_fine f e z = rw (← e, eq-eqb f 0 z)
 
   module _ (f : ℕ) (e : f ≡ words_fault ws) (z : f ≡ 0) where
-    pub line-heading : h ≡ true → entry_of (line_of n h ws) ≡ heading_entry ws
-    line-heading k = line_fine f e z ∙ rw k
+    pub line_heading : h ≡ true → entry_of (line_of n h ws) ≡ heading_entry ws
+    line_heading k = line_fine f e z ∙ rw k
 
-    pub line-ignored : h ≡ false → length ws ≡ 0 → entry_of (line_of n h ws) ≡ ignored
-    line-ignored k l = line_fine f e z ∙ (rw k (no_words ws l))
+    pub line_ignored : h ≡ false → length ws ≡ 0 → entry_of (line_of n h ws) ≡ ignored
+    line_ignored k l = line_fine f e z ∙ (rw k (no_words ws l))
 
-    pub line-rule : h ≡ false → (length ws ≡ 0 → ⊥) → entry_of (line_of n h ws) ≡ rule ws
-    line-rule k l = line_fine f e z ∙ (rw k (some_words ws l))
+    pub line_rule : h ≡ false → (length ws ≡ 0 → ⊥) → entry_of (line_of n h ws) ≡ rule ws
+    line_rule k l = line_fine f e z ∙ (rw k (some_words ws l))
 
 -- the tally of a line counts no more words before the first `=` than there are
 pub first_count : (ws : Words) (t : Tally) → Tallied ws t → t.first ≤ t.count

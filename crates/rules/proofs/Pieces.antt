@@ -31,37 +31,37 @@ module _ (t u : Text) (e : t ≡ u) (x : ℕ) (a : x ≡ get_or t 0 0) where
   which_alone n = rw (← e, ← a, ne_eqb x 91 n)
 
   module _ (k : x ≡ 91) (y : ℕ) (b : y ≡ get_or t 1 0) where
-    pub which-low : (y ≡ 37 → ⊥) → y < 49 → which.Wrong ≡ Percent.which_of u
+    pub which_low : (y ≡ 37 → ⊥) → y < 49 → which.Wrong ≡ Percent.which_of u
     unfolding Percent.which_of
-    which-low n h = rw (← e, ← a, k, ← b, lt-leb 49 y h, ne_eqb y 37 n)
+    which_low n h = rw (← e, ← a, k, ← b, lt-leb 49 y h, ne_eqb y 37 n)
 
-    pub which-high : (y ≡ 37 → ⊥) → 53 ≤ y → which.Wrong ≡ Percent.which_of u
+    pub which_high : (y ≡ 37 → ⊥) → 53 ≤ y → which.Wrong ≡ Percent.which_of u
     unfolding Percent.which_of
-    which-high n h = rw (← e, ← a, k, ← b, le-leb 49 y (omega arith), lt-leb y 52 h, ne_eqb y 37 n)
+    which_high n h = rw (← e, ← a, k, ← b, le-leb 49 y (omega arith), lt-leb y 52 h, ne_eqb y 37 n)
 
     module _ (z : ℕ) (c : z ≡ get_or t 2 0) where
-      pub which-numbered : 49 ≤ y → y < 53 → z ≡ 93 → (n : ℕ) → n ≡ y - 48 → which.Numbered n ≡ Percent.which_of u
+      pub which_numbered : 49 ≤ y → y < 53 → z ≡ 93 → (n : ℕ) → n ≡ y - 48 → which.Numbered n ≡ Percent.which_of u
       unfolding Percent.which_of
-      which-numbered h l f n g = rw (← e, ← a, k, ← b, ← c, f, le-leb 49 y h, le-leb y 52 (omega arith), g)
+      which_numbered h l f n g = rw (← e, ← a, k, ← b, ← c, f, le-leb 49 y h, le-leb y 52 (omega arith), g)
 
-      pub which-unnumbered : 49 ≤ y → y < 53 → (z ≡ 93 → ⊥) → which.Wrong ≡ Percent.which_of u
+      pub which_unnumbered : 49 ≤ y → y < 53 → (z ≡ 93 → ⊥) → which.Wrong ≡ Percent.which_of u
       unfolding Percent.which_of
-      which-unnumbered h l f =
+      which_unnumbered h l f =
           rw (← e, ← a, k, ← b, ← c, ne_eqb z 93 f, le-leb 49 y h, le-leb y 52 (omega arith), ne_eqb y 37 (λ q. omega arith))
 
       module _ (l : y ≡ 37) where
-        pub which-strange : (z ≡ 105 → ⊥) → which.Wrong ≡ Percent.which_of u
+        pub which_strange : (z ≡ 105 → ⊥) → which.Wrong ≡ Percent.which_of u
         unfolding Percent.which_of
-        which-strange n = rw (← e, ← a, k, ← b, l, ← c, ne_eqb z 105 n)
+        which_strange n = rw (← e, ← a, k, ← b, l, ← c, ne_eqb z 105 n)
 
         module _ (m : z ≡ 105) (v : ℕ) (d : v ≡ get_or t 3 0) where
-          pub which-open : (v ≡ 93 → ⊥) → which.Wrong ≡ Percent.which_of u
+          pub which_open : (v ≡ 93 → ⊥) → which.Wrong ≡ Percent.which_of u
           unfolding Percent.which_of
-          which-open n = rw (← e, ← a, k, ← b, l, ← c, m, ← d, ne_eqb v 93 n)
+          which_open n = rw (← e, ← a, k, ← b, l, ← c, m, ← d, ne_eqb v 93 n)
 
-          pub which-matched : v ≡ 93 → which.Matched ≡ Percent.which_of u
+          pub which_matched : v ≡ 93 → which.Matched ≡ Percent.which_of u
           unfolding Percent.which_of
-          which-matched q = rw (← e, ← a, k, ← b, l, ← c, m, ← d, q)
+          which_matched q = rw (← e, ← a, k, ← b, l, ← c, m, ← d, q)
 
 -- the variable, and the item
 
@@ -231,30 +231,30 @@ module _ (x : Bool) (w : Text) where
   sound_start = record { high = omega arith; rest = refl }
 
   module _ (i : ℕ) (s : Sound x w i) where
-    pub sound-end : length w ≤ i → false ≡ Percent.malformed x w
+    pub sound_end : length w ≤ i → false ≡ Percent.malformed x w
     unfolding Percent.malformed
-    sound-end h = sym (s.rest ∙ rw (drop_of_length-le w h, pieces_none, any_nil))
+    sound_end h = sym (s.rest ∙ rw (drop_of_length-le w h, pieces_none, any_nil))
 
     module _ (h : i < length w) where
-      pub sound-byte : (get_or w i 0 ≡ 37 → ⊥) → Sound x w (i + 1)
+      pub sound_byte : (get_or w i 0 ≡ 37 → ⊥) → Sound x w (i + 1)
       unfolding Percent.malformed
-      sound-byte n =
+      sound_byte n =
           record { high = omega arith; rest = s.rest ∙ rw (drop_at w i h, pieces_byte _ _ n, any_cons, bad_byte_lem) }
 
       module _ (e : get_or w i 0 ≡ 37) (p : Piece) (q : p ≡ Percent.piece_after (drop (i + 1) w)) where
-        pub item-fits : (k : ℕ) → k ≡ Percent.piece_length p → i + 1 + k ≤ length w
-        item-fits k l = omega (arith, l, rw (← q) at (piece_fits (drop (i + 1) w)), length-drop (i + 1) w)
+        pub item_fits : (k : ℕ) → k ≡ Percent.piece_length p → i + 1 + k ≤ length w
+        item_fits k l = omega (arith, l, rw (← q) at (piece_fits (drop (i + 1) w)), length-drop (i + 1) w)
 
-        item-step : Percent.malformed x (drop i w) ≡ Percent.bad_piece x p || Percent.malformed x (drop (i + 1 + Percent.piece_length p) w)
+        item_step : Percent.malformed x (drop i w) ≡ Percent.bad_piece x p || Percent.malformed x (drop (i + 1 + Percent.piece_length p) w)
         unfolding Percent.malformed
-        item-step = rw (drop_at w i h, pieces_item _ _ e, ← q, any_cons, drop-drop)
+        item_step = rw (drop_at w i h, pieces_item _ _ e, ← q, any_cons, drop-drop)
 
-        pub sound-bad : (b : Bool) → b ≡ Percent.bad_piece x p → b ≡ true → true ≡ Percent.malformed x w
-        sound-bad b a t = sym (s.rest ∙ item-step ∙ rw (← a, t))
+        pub sound_bad : (b : Bool) → b ≡ Percent.bad_piece x p → b ≡ true → true ≡ Percent.malformed x w
+        sound_bad b a t = sym (s.rest ∙ item_step ∙ rw (← a, t))
 
-        pub sound-good : (b : Bool) → b ≡ Percent.bad_piece x p → b ≡ false → (k : ℕ) → k ≡ Percent.piece_length p → Sound x w (i + 1 + k)
-        sound-good b a t k l =
-            record { high = item-fits k l; rest = s.rest ∙ item-step ∙ rw (← a, t, ← l) }
+        pub sound_good : (b : Bool) → b ≡ Percent.bad_piece x p → b ≡ false → (k : ℕ) → k ≡ Percent.piece_length p → Sound x w (i + 1 + k)
+        sound_good b a t k l =
+            record { high = item_fits k l; rest = s.rest ∙ item_step ∙ rw (← a, t, ← l) }
 
 -- four bytes a turn
 
@@ -271,12 +271,12 @@ plain_four w i v l a b c d =
     record {
       high = h;
       rest = λ x.
-          let s₁ = sound-byte x w i (plain_sound w i v x) (omega arith) a in
-          let s₂ = sound-byte x w (i + 1) s₁ (omega arith) b in
+          let s₁ = sound_byte x w i (plain_sound w i v x) (omega arith) a in
+          let s₂ = sound_byte x w (i + 1) s₁ (omega arith) b in
           let e₂ : i + 1 + 1 ≡ i + 2 = omega arith in
-          let s₃ = sound-byte x w (i + 2) (rw e₂ at s₂) (omega arith) c in
+          let s₃ = sound_byte x w (i + 2) (rw e₂ at s₂) (omega arith) c in
           let e₃ : i + 2 + 1 ≡ i + 3 = omega arith in
-          let s₄ = sound-byte x w (i + 3) (rw e₃ at s₃) (omega arith) d in
+          let s₄ = sound_byte x w (i + 3) (rw e₃ at s₃) (omega arith) d in
           let e₄ : i + 3 + 1 ≡ i + 4 = omega arith in
           (rw e₄ at s₄).rest;
     }

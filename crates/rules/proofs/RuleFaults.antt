@@ -21,24 +21,24 @@ module _ (p : Present) (ws : Words) where
     h : eqb p.form 0 ≡ false
     h = ne_eqb p.form 0 n₀
 
-    pub fault-count : (count ≡ p.left + 1 + p.right → ⊥) → 6 ≡ present_fault p ws
+    pub fault_count : (count ≡ p.left + 1 + p.right → ⊥) → 6 ≡ present_fault p ws
     unfolding present_fault shape_fault rule_shape
-    fault-count n = rw (h, ne_eqb (length ws) _ (λ e. n (c ∙ e)))
+    fault_count n = rw (h, ne_eqb (length ws) _ (λ e. n (c ∙ e)))
 
     module _ (e : count ≡ p.left + 1 + p.right) where
       long : length ws ≡ p.left + 1 + p.right
       long = sym c ∙ e
 
-      pub fault-left : all_of left_word (take p.left ws) ≡ false → 6 ≡ present_fault p ws
+      pub fault_left : all_of left_word (take p.left ws) ≡ false → 6 ≡ present_fault p ws
       unfolding present_fault shape_fault rule_shape
-      fault-left l = rw (h, eq-eqb _ _ long, l)
+      fault_left l = rw (h, eq-eqb _ _ long, l)
 
       module _ (l : all_of left_word (take p.left ws) ≡ true) where
-        pub fault-equals : is_equals (get_or ws p.left []) ≡ false → 6 ≡ present_fault p ws
+        pub fault_equals : is_equals (get_or ws p.left []) ≡ false → 6 ≡ present_fault p ws
         unfolding present_fault shape_fault rule_shape
-        fault-equals q = rw (h, eq-eqb _ _ long, l, q)
+        fault_equals q = rw (h, eq-eqb _ _ long, l, q)
 
         module _ (q : is_equals (get_or ws p.left []) ≡ true) where
-          pub fault-right : (r : ℕ) → r ≡ right_fault (eqb p.form 2) (drop (p.left + 1) ws) → r ≡ present_fault p ws
+          pub fault_right : (r : ℕ) → r ≡ right_fault (eqb p.form 2) (drop (p.left + 1) ws) → r ≡ present_fault p ws
           unfolding present_fault shape_fault rule_shape right_fault
-          fault-right r e = e ∙ rw (h, eq-eqb _ _ long, l, q)
+          fault_right r e = e ∙ rw (h, eq-eqb _ _ long, l, q)

@@ -40,14 +40,14 @@ module _ (q : Text → Bool) (ws : Words) (n : ℕ) where
         let k : j < length ws = omega arith in
         rw (e, words_at ws j k) (all_cons q (get_or ws j []) (take (n - (j + 1)) (drop (j + 1) ws)))
 
-    pub upto-more : j < n → n ≤ length ws → q (get_or ws j []) ≡ true → AllUpTo q ws n (j + 1)
-    upto-more h l e = record { high = omega arith; rest = v.rest ∙ (upto_step h l ∙ rw e) }
+    pub upto_more : j < n → n ≤ length ws → q (get_or ws j []) ≡ true → AllUpTo q ws n (j + 1)
+    upto_more h l e = record { high = omega arith; rest = v.rest ∙ (upto_step h l ∙ rw e) }
 
-    pub upto-miss : j < n → n ≤ length ws → q (get_or ws j []) ≡ false → false ≡ all_of q (take n ws)
-    upto-miss h l e = sym (v.rest ∙ (upto_step h l ∙ rw e))
+    pub upto_miss : j < n → n ≤ length ws → q (get_or ws j []) ≡ false → false ≡ all_of q (take n ws)
+    upto_miss h l e = sym (v.rest ∙ (upto_step h l ∙ rw e))
 
-    pub upto-end : n ≤ j → true ≡ all_of q (take n ws)
-    upto-end h = let e : n - j ≡ 0 = omega arith in sym (v.rest ∙ rw e (all_none q))
+    pub upto_end : n ≤ j → true ≡ all_of q (take n ws)
+    upto_end h = let e : n - j ≡ 0 = omega arith in sym (v.rest ∙ rw e (all_none q))
 
 -- the right words from j on are still to be looked at; `bad`: one of those before is malformed
 pub record RightFrom (i : Bool) (ws : Words) (from j : ℕ) (bad : Bool) : Type 0 where
@@ -60,9 +60,9 @@ module _ (i : Bool) (ws : Words) (from : ℕ) where
   right_start h = record { high = h; plain = refl; percent = refl }
 
   module _ (j : ℕ) (bad : Bool) (v : RightFrom i ws from j bad) where
-    pub right-odd : j < length ws → ordinary (get_or ws j []) ≡ false → 6 ≡ right_fault i (drop from ws)
+    pub right_odd : j < length ws → ordinary (get_or ws j []) ≡ false → 6 ≡ right_fault i (drop from ws)
     unfolding right_fault
-    right-odd h e = let p : all_of ordinary (drop from ws) ≡ false = v.plain ∙ rw (words_at ws j h, all_cons, e) in rw p
+    right_odd h e = let p : all_of ordinary (drop from ws) ≡ false = v.plain ∙ rw (words_at ws j h, all_cons, e) in rw p
 
     pub right_more : (b : Bool) → j < length ws → ordinary (get_or ws j []) ≡ true → b ≡ (bad || malformed i (get_or ws j [])) → RightFrom i ws from (j + 1) b
     right_more b h e m =
@@ -76,13 +76,13 @@ module _ (i : Bool) (ws : Words) (from : ℕ) where
       all_plain : all_of ordinary (drop from ws) ≡ true
       all_plain = v.plain ∙ rw (drop_of_length-le ws h, all_none)
 
-      any-bad : any_of (malformed i) (drop from ws) ≡ bad
-      any-bad = v.percent ∙ rw (drop_of_length-le ws h, any_nil) (or-false bad)
+      any_bad : any_of (malformed i) (drop from ws) ≡ bad
+      any_bad = v.percent ∙ rw (drop_of_length-le ws h, any_nil) (or-false bad)
 
-      pub right-bad : bad ≡ true → 8 ≡ right_fault i (drop from ws)
+      pub right_bad : bad ≡ true → 8 ≡ right_fault i (drop from ws)
       unfolding right_fault
-      right-bad e = rw (all_plain, any-bad, e)
+      right_bad e = rw (all_plain, any_bad, e)
 
-      pub right-fine : bad ≡ false → 0 ≡ right_fault i (drop from ws)
+      pub right_fine : bad ≡ false → 0 ≡ right_fault i (drop from ws)
       unfolding right_fault
-      right-fine e = rw (all_plain, any-bad, e)
+      right_fine e = rw (all_plain, any_bad, e)

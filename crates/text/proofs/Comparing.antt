@@ -65,26 +65,26 @@ module _ (a b : Text) (long : length a ≡ length b) (from : ℕ) where
         sym (v.rest ∙ rw (drop_of_length-le a h, drop_of_length-le b k, same_nil))
 
     module _ (h : i < length a) where
-      alike-step : same (drop i a) (drop i b) ≡ eqb (get_or a i 0) (get_or b i 0) && same (drop (i + 1) a) (drop (i + 1) b)
-      alike-step =
+      alike_step : same (drop i a) (drop i b) ≡ eqb (get_or a i 0) (get_or b i 0) && same (drop (i + 1) a) (drop (i + 1) b)
+      alike_step =
           let k : i < length b = omega arith in
           rw (drop_at a i h, drop_at b i k, same_cons)
 
-      pub alike-differ : (get_or a i 0 ≡ get_or b i 0 → ⊥) → false ≡ same (drop from a) (drop from b)
-      alike-differ n = sym (v.rest ∙ (alike-step ∙ rw (ne_eqb _ _ n)))
+      pub alike_differ : (get_or a i 0 ≡ get_or b i 0 → ⊥) → false ≡ same (drop from a) (drop from b)
+      alike_differ n = sym (v.rest ∙ (alike_step ∙ rw (ne_eqb _ _ n)))
 
-      pub alike-more : get_or a i 0 ≡ get_or b i 0 → Alike a b from (i + 1)
-      alike-more q = record { low = omega (arith, v.low); high = omega arith; rest = v.rest ∙ (alike-step ∙ rw (eq-eqb _ _ q)) }
+      pub alike_more : get_or a i 0 ≡ get_or b i 0 → Alike a b from (i + 1)
+      alike_more q = record { low = omega (arith, v.low); high = omega arith; rest = v.rest ∙ (alike_step ∙ rw (eq-eqb _ _ q)) }
 
   pub alike_four : (i : ℕ) → Alike a b from i → i + 3 < length a → get_or a i 0 ≡ get_or b i 0 → get_or a (i + 1) 0 ≡ get_or b (i + 1) 0 →
       get_or a (i + 2) 0 ≡ get_or b (i + 2) 0 → get_or a (i + 3) 0 ≡ get_or b (i + 3) 0 → Alike a b from (i + 4)
   alike_four i v h e₀ e₁ e₂ e₃ =
-      let v₁ = alike-more i v (omega arith) e₀ in
-      let v₂ = alike-more (i + 1) v₁ (omega arith) e₁ in
+      let v₁ = alike_more i v (omega arith) e₀ in
+      let v₂ = alike_more (i + 1) v₁ (omega arith) e₁ in
       let q₂ : i + 1 + 1 ≡ i + 2 = omega arith in
-      let v₃ = alike-more (i + 2) (rw q₂ at v₂) (omega arith) e₂ in
+      let v₃ = alike_more (i + 2) (rw q₂ at v₂) (omega arith) e₂ in
       let q₃ : i + 2 + 1 ≡ i + 3 = omega arith in
-      let v₄ = alike-more (i + 3) (rw q₃ at v₃) (omega arith) e₃ in
+      let v₄ = alike_more (i + 3) (rw q₃ at v₃) (omega arith) e₃ in
       let q₄ : i + 3 + 1 ≡ i + 4 = omega arith in
       rw q₄ at v₄
 

@@ -269,9 +269,9 @@ slash_drop s k i h = go (ltb 0 i) (ltb 1 i) refl refl
     two : 1 < i → get_or (drop k s) (i - 2) 0 ≡ get_or s (k + i - 2) 0
     two p = let q : k + (i - 2) ≡ k + i - 2 = omega arith in get_or-drop k s (i - 2) 0 ∙ rw q refl
 
-    first-case : (t : Bool) → eqb (get_or s (k + i - 1) 0) 13 ≡ t → ltb 1 i ≡ false → cond t (ltb 1 (k + i) && eqb (get_or s (k + i - 2) 0) 92) (eqb (get_or s (k + i - 1) 0) 92) ≡ false → cond t false (eqb (get_or s (k + i - 1) 0) 92) ≡ false
-    first-case true e l g = refl
-    first-case false e l g = g
+    first_case : (t : Bool) → eqb (get_or s (k + i - 1) 0) 13 ≡ t → ltb 1 i ≡ false → cond t (ltb 1 (k + i) && eqb (get_or s (k + i - 2) 0) 92) (eqb (get_or s (k + i - 1) 0) 92) ≡ false → cond t false (eqb (get_or s (k + i - 1) 0) 92) ≡ false
+    first_case true e l g = refl
+    first_case false e l g = g
 
     go : (t u : Bool) → ltb 0 i ≡ t → ltb 1 i ≡ u →
         t && cond (eqb (get_or (drop k s) (i - 1) 0) 13) (u && eqb (get_or (drop k s) (i - 2) 0) 92) (eqb (get_or (drop k s) (i - 1) 0) 92) ≡ false
@@ -285,4 +285,4 @@ slash_drop s k i h = go (ltb 0 i) (ltb 1 i) refl refl
     go true false p q =
         let a = ltb-true 0 i p in
         let a' : 0 < k + i = omega arith in
-        rw (one a) (first-case (eqb (get_or s (k + i - 1) 0) 13) refl q (rw (lt-ltb 0 (k + i) a') at h))
+        rw (one a) (first_case (eqb (get_or s (k + i - 1) 0) 13) refl q (rw (lt-ltb 0 (k + i) a') at h))

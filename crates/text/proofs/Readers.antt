@@ -257,9 +257,9 @@ module _ (s : List ℕ) (from n i m : ℕ) (v : Between s from n i m) where
       }
 
   module _ (h : i < length s) where
-    pub between-feed : get_or s i 0 ≡ 10 → NoWord s from n (i + 1) (m + 1)
+    pub between_feed : get_or s i 0 ≡ 10 → NoWord s from n (i + 1) (m + 1)
     unfolding left ahead follow
-    between-feed e =
+    between_feed e =
         record {
           low = omega (arith, v.low);
           onwards = omega (arith, v.low);
@@ -271,9 +271,9 @@ module _ (s : List ℕ) (from n i m : ℕ) (v : Between s from n i m) where
         }
 
     -- CR before LF is as a blank
-    between-return : get_or s i 0 ≡ 13 → get_or s (i + 1) 0 ≡ 10 → Between s from n (i + 1) m
+    between_return : get_or s i 0 ≡ 13 → get_or s (i + 1) 0 ≡ 10 → Between s from n (i + 1) m
     unfolding left ahead
-    between-return e f =
+    between_return e f =
         let x = step_other Space _ _ (first (drop (i + 2) s)) Blank (differ _ 13 10 refl e) (return_class _ _ _ e (first_drop s (i + 1) ∙ f)) in
         record {
           low = omega (arith, v.low);
@@ -284,9 +284,9 @@ module _ (s : List ℕ) (from n i m : ℕ) (v : Between s from n i m) where
           onto = v.onto ∙ rw (marks_at Space s i h, x, lines_gap);
         }
 
-    pub between-joined : (z j : ℕ) → JoinAt s i z → Blanks s z j → Between s from n j (m + 1)
+    pub between_joined : (z j : ℕ) → JoinAt s i z → Blanks s z j → Between s from n j (m + 1)
     unfolding left ahead
-    between-joined z j u w =
+    between_joined z j u w =
         let g = joined_space s (i + 1) z u.feed in
         let x = step_other Space _ _ _ Join (differ _ 92 10 refl u.slash) (join_class _ _ _ u.slash (join_ends s i z u)) in
         record {
@@ -298,9 +298,9 @@ module _ (s : List ℕ) (from n i m : ℕ) (v : Between s from n i m) where
           onto = v.onto ∙ rw (marks_at Space s i h, x, lines_gap) (g.onto m ∙ w.onto (m + 1));
         }
 
-    pub between-note : (p : ℕ) → get_or s i 0 ≡ 47 → first (drop (i + 1) s) ≡ 47 → CommentEnd s (i + 1) p → NoWord s from n p (m + 1)
+    pub between_note : (p : ℕ) → get_or s i 0 ≡ 47 → first (drop (i + 1) s) ≡ 47 → CommentEnd s (i + 1) p → NoWord s from n p (m + 1)
     unfolding left ahead
-    between-note p e f w =
+    between_note p e f w =
         let x = step_other Space _ _ _ Slashes (differ _ 47 10 refl e) (note_class _ _ (first (drop (i + 2) s)) e f) in
         record {
           low = omega (arith, v.low, w.low);
@@ -312,9 +312,9 @@ module _ (s : List ℕ) (from n i m : ℕ) (v : Between s from n i m) where
           onto = v.onto ∙ rw (marks_at Space s i h, x, lines_gap) (w.onto m);
         }
 
-    pub between-word : (z f : ℕ) → Begins (get_or s i 0) (first (drop (i + 1) s)) (first (drop (i + 2) s)) → OddWord s i z f → FoundWord s from n i z m f
+    pub between_word : (z f : ℕ) → Begins (get_or s i 0) (first (drop (i + 1) s)) (first (drop (i + 2) s)) → OddWord s i z f → FoundWord s from n i z m f
     unfolding left ahead
-    between-word z f b w =
+    between_word z f b w =
         let x = step_other Space _ _ _ _ (ends_no _ _ b.feed) refl ∙ begins_char _ _ _ b in
         let lo : i < z = omega (arith, w.ends.low) in
         record {
@@ -333,11 +333,11 @@ pub between_over : (s : List ℕ) (from n i m z : ℕ) → Between s from n i m 
 between_over s from n i m z v u =
     let h : i < length s = omega (arith, u.low, u.high) in
     ⊎_elim
-    (λ (w : (z ≡ i + 1) × (get_or s i 0 ≡ 10)). rw w.0 (between-feed s from n i m v h w.1))
+    (λ (w : (z ≡ i + 1) × (get_or s i 0 ≡ 10)). rw w.0 (between_feed s from n i m v h w.1))
     (λ (w : (z ≡ i + 2) × ((get_or s i 0 ≡ 13) × (get_or s (i + 1) 0 ≡ 10))).
     let q : z ≡ i + 1 + 1 = omega (arith, w.0) in
     let k : i + 1 < length s = omega (arith, w.0, u.high) in
-    rw q (between-feed s from n (i + 1) m (between-return s from n i m v h w.1.0 w.1.1) k w.1.1))
+    rw q (between_feed s from n (i + 1) m (between_return s from n i m v h w.1.0 w.1.1) k w.1.1))
     u.cases
 
 -- a word begins where there is no blank, no line end, no join and no comment
@@ -454,9 +454,9 @@ module _ (s : List ℕ) (from n i m : ℕ) (v : Opened s from n i m) where
       }
 
   module _ (h : i < length s) where
-    pub opened-bang : get_or s i 0 ≡ 33 → Opens s from n true (i + 1) m
+    pub opened_bang : get_or s i 0 ≡ 33 → Opens s from n true (i + 1) m
     unfolding left ahead
-    opened-bang e =
+    opened_bang e =
         let x = step_other Start _ _ _ Bang (differ _ 33 10 refl e) (bang_class _ (first (drop (i + 1) s)) (first (drop (i + 2) s)) e) in
         record {
           low = omega (arith, v.low);
@@ -468,14 +468,14 @@ module _ (s : List ℕ) (from n i m : ℕ) (v : Opened s from n i m) where
           onto = v.onto ∙ rw (marks_at Start s i h, x, lines_bang);
         }
 
-    pub opened-same : Same (get_or s i 0) (first (drop (i + 1) s)) (first (drop (i + 2) s)) → Opens s from n false i m
+    pub opened_same : Same (get_or s i 0) (first (drop (i + 1) s)) (first (drop (i + 2) s)) → Opens s from n false i m
     unfolding left ahead
-    opened-same e =
+    opened_same e =
         let w = same_marks s i h e in
         record { low = v.low; high = v.high; few = v.few; grow = v.grow; mark = v.mark ∙ w.1; text = v.text ∙ rw w.0; onto = v.onto ∙ rw w.0 }
 
-    pub opened-joined : (z j : ℕ) → JoinAt s i z → Blanks s z j → Opened s from n j (m + 1)
-    opened-joined z j u w =
+    pub opened_joined : (z j : ℕ) → JoinAt s i z → Blanks s z j → Opened s from n j (m + 1)
+    opened_joined z j u w =
         let g = joined_start s (i + 1) z u.feed in
         let x = step_other Start _ _ _ Join (differ _ 92 10 refl u.slash) (join_class _ _ _ u.slash (join_ends s i z u)) in
         record {
@@ -664,7 +664,7 @@ value_found s f from i p v k h z y r l m n o =
     let lo : i < p = omega (arith, r.read.low) in (
       record {
         found = λ q j.
-            between-word s from q i q (between_skip s from q i j k.blanks) a p 0 (kind_zero (get_or s i 0) (first (drop (i + 1) s)) (first (drop (i + 2) s)) z).0
+            between_word s from q i q (between_skip s from q i j k.blanks) a p 0 (kind_zero (get_or s i 0) (first (drop (i + 1) s)) (first (drop (i + 2) s)) z).0
             (plain_word s i p a (kind_zero (get_or s i 0) 0 0 z).1 e (fence_in s f p v l) n o);
         inside = l;
       },

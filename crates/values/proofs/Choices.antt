@@ -40,15 +40,15 @@ module _ (n k : ℕ) (ts : List Text) (x : Which) where
   wrong_none q = sym (rw q)
 
   module _ (j : ℕ) (q : x ≡ which.Numbered j) where
-    pub numbered-lone : n ≤ 1 → [] ≡ choose n k ts x
+    pub numbered_lone : n ≤ 1 → [] ≡ choose n k ts x
     unfolding choose
-    numbered-lone h = sym (rw (q, le-ltb 1 n h))
+    numbered_lone h = sym (rw (q, le-ltb 1 n h))
 
-    pub numbered-beyond : n < j → [] ≡ choose n k ts x
-    numbered-beyond h = sym (rw (q, beyond_numbered n k j ts h))
+    pub numbered_beyond : n < j → [] ≡ choose n k ts x
+    numbered_beyond h = sym (rw (q, beyond_numbered n k j ts h))
 
-    pub numbered-one : 1 < n → j ≤ n → (i : ℕ) → i ≡ j - 1 → (r : Text) → r ≡ get_or ts i [] → r ≡ choose n k ts x
-    numbered-one h l i p r g = g ∙ sym (rw (q, several_numbered n k j ts h l, p))
+    pub numbered_one : 1 < n → j ≤ n → (i : ℕ) → i ≡ j - 1 → (r : Text) → r ≡ get_or ts i [] → r ≡ choose n k ts x
+    numbered_one h l i p r g = g ∙ sym (rw (q, several_numbered n k j ts h l, p))
 
 -- what an item stands for
 
@@ -58,13 +58,13 @@ module _ (y : Profile) (k : ℕ) (x : Variable) where
   value_model q r g = g ∙ sym (rw q)
 
   module _ (w : Which) (n : ℕ) (e : n ≡ layout_count y) (r : Text) where
-    pub value-layout : x ≡ variable.Layout w → r ≡ choose n k y.layouts w → r ≡ value_of y k x
+    pub value_layout : x ≡ variable.Layout w → r ≡ choose n k y.layouts w → r ≡ value_of y k x
     unfolding value_of
-    value-layout q g = g ∙ sym (rw (q, e))
+    value_layout q g = g ∙ sym (rw (q, e))
 
-    pub value-variant : x ≡ variable.Variant w → r ≡ choose n k y.variants w → r ≡ value_of y k x
+    pub value_variant : x ≡ variable.Variant w → r ≡ choose n k y.variants w → r ≡ value_of y k x
     unfolding value_of
-    value-variant q g = g ∙ sym (rw (q, e))
+    value_variant q g = g ∙ sym (rw (q, e))
 
   pub value_unknown : x ≡ variable.Unknown → [] ≡ value_of y k x
   unfolding value_of
@@ -82,14 +82,14 @@ module _ (d : Text) (at : ℕ) (t : Text) where
   prefix_none b h l = rw (nothing t h) (wrote_none d at l)
 
   module _ (h : length t ≡ 0 → ⊥) (l : length d ≤ farthest) where
-    pub parens-some : (d₁ d₂ d₃ : Text) (a e r : ℕ) → Wrote d d₁ at (40 ∷ []) a → Wrote d₁ d₂ a t e → Wrote d₂ d₃ e (41 ∷ []) r → Wrote d d₃ at (enclosed t) r
+    pub parens_some : (d₁ d₂ d₃ : Text) (a e r : ℕ) → Wrote d d₁ at (40 ∷ []) a → Wrote d₁ d₂ a t e → Wrote d₂ d₃ e (41 ∷ []) r → Wrote d d₃ at (enclosed t) r
     unfolding enclosed
-    parens-some d₁ d₂ d₃ a e r u v w =
+    parens_some d₁ d₂ d₃ a e r u v w =
         rw (empty_some t h) (wrote_then d d₂ d₃ at (40 ∷ t) (41 ∷ []) e r l (wrote_then d d₁ d₂ at (40 ∷ []) t a e l u v) w)
 
-    pub prefix-some : (b : ℕ) (d₁ d₂ : Text) (a r : ℕ) → Wrote d d₁ at (b ∷ []) a → Wrote d₁ d₂ a t r → Wrote d d₂ at (prefixed b t) r
+    pub prefix_some : (b : ℕ) (d₁ d₂ : Text) (a r : ℕ) → Wrote d d₁ at (b ∷ []) a → Wrote d₁ d₂ a t r → Wrote d d₂ at (prefixed b t) r
     unfolding prefixed
-    prefix-some b d₁ d₂ a r u v = rw (empty_some t h) (wrote_then d d₁ d₂ at (b ∷ []) t a r l u v)
+    prefix_some b d₁ d₂ a r u v = rw (empty_some t h) (wrote_then d d₁ d₂ at (b ∷ []) t a r l u v)
 
 -- a value with what an item puts around it
 
@@ -107,17 +107,17 @@ module _ (p : Piece) (d : Text) (at : ℕ) (t : Text) where
   dressed_unclosed q h = rw q (wrote_none d at h)
 
   module _ (d' : Text) (r : ℕ) (x : Variable) where
-    pub dressed-bare : p ≡ Bare x → Wrote d d' at t r → Wrote d d' at (dressed p t) r
+    pub dressed_bare : p ≡ Bare x → Wrote d d' at t r → Wrote d d' at (dressed p t) r
     unfolding dressed
-    dressed-bare q w = rw q w
+    dressed_bare q w = rw q w
 
-    pub dressed-parens : p ≡ Parens x → Wrote d d' at (enclosed t) r → Wrote d d' at (dressed p t) r
+    pub dressed_parens : p ≡ Parens x → Wrote d d' at (enclosed t) r → Wrote d d' at (dressed p t) r
     unfolding dressed
-    dressed-parens q w = rw q w
+    dressed_parens q w = rw q w
 
-    pub dressed-prefix : (b : ℕ) → p ≡ Prefixed b x → Wrote d d' at (prefixed b t) r → Wrote d d' at (dressed p t) r
+    pub dressed_prefix : (b : ℕ) → p ≡ Prefixed b x → Wrote d d' at (prefixed b t) r → Wrote d d' at (dressed p t) r
     unfolding dressed
-    dressed-prefix b q w = rw q w
+    dressed_prefix b q w = rw q w
 
 dressed_nil : (p : Piece) → dressed p [] ≡ []
 unfolding dressed enclosed prefixed empty

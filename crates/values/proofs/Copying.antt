@@ -262,7 +262,7 @@ module _ (b : ℕ) (t : Text) (n : ℕ) (d d' : Text) (at k o : ℕ) (v : Storin
   storing_more d'' r h l s w q =
       let e : n + 1 - k ≡ suc (n + 1 - (k + 1)) = omega arith in
       let x = rw e at v.room in
-      let y : length (copy k (b ∷ t)) ≡ length t + 3 = sym (length-one k) in
+      let y : length (copy k (b ∷ t)) ≡ length t + 3 = sym (length_one k) in
       record {
         some = omega (arith, v.some);
         few = omega arith;
@@ -276,8 +276,8 @@ module _ (b : ℕ) (t : Text) (n : ℕ) (d d' : Text) (at k o : ℕ) (v : Storin
             v.left ∙ (p ∙ rw (y, w, q, z));
       }
     where
-      length-one : (j : ℕ) → length t + 3 ≡ length (copy k (b ∷ t))
-      length-one j =
+      length_one : (j : ℕ) → length t + 3 ≡ length (copy k (b ∷ t))
+      length_one j =
           let z = copies_size 1 k b t (omega arith) v.some s in
           let u : length (copies 1 k (b ∷ t)) ≡ length (copy k (b ∷ t)) + 0 = ap length (copies_cons 0 k (b ∷ t)) ∙ (length-append (copy k (b ∷ t)) (copies 0 (k + 1) (b ∷ t)) ∙ rw (copies_none (k + 1) (b ∷ t))) in
           omega arith

@@ -117,8 +117,8 @@ module _ (t : Text) (from : ℕ) where
   in_cut_start h = record { low = omega arith; high = h; piece = rw (part_empty t from); rest = refl }
 
   module _ (i : ℕ) (v : InCut t from i) where
-    pub in-cut-end : upto (drop i t) ≡ [] → CutEnd t from i
-    in-cut-end h =
+    pub in_cut_end : upto (drop i t) ≡ [] → CutEnd t from i
+    in_cut_end h =
         record {
           low = v.low;
           high = v.high;
@@ -126,8 +126,8 @@ module _ (t : Text) (from : ℕ) where
           rest = v.rest ∙ (ap (λ (x : Text). x ++ beyond (drop i t)) (sym h) ∙ upto_beyond (drop i t));
         }
 
-    pub in-cut-more : i < length t → is_sign (get_or t i 0) ≡ false → InCut t from (i + 1)
-    in-cut-more h e =
+    pub in_cut_more : i < length t → is_sign (get_or t i 0) ≡ false → InCut t from (i + 1)
+    in_cut_more h e =
         record {
           low = omega (arith, v.low);
           high = omega arith;

@@ -78,17 +78,17 @@ item_high w i h q a j c = omega (arith, c, rw (← a) at (piece_fits (drop (i + 
 
 module _ (p : Profile) (k : ℕ) (w d d' : Text) (i o : ℕ) (v : Going p k w d d' i o) where
   module _ (h : i < length w) (d'' : Text) (s : ℕ) where
-    pub going-byte : (get_or w i 0 ≡ 37 → ⊥) → Wrote d' d'' o (get_or w i 0 ∷ []) s → Going p k w d d'' (i + 1) s
-    going-byte n u =
+    pub going_byte : (get_or w i 0 ≡ 37 → ⊥) → Wrote d' d'' o (get_or w i 0 ∷ []) s → Going p k w d d'' (i + 1) s
+    going_byte n u =
         record {
           high = omega arith;
           left = writing_more d d' 0 (filled p k w) o (get_or w i 0 ∷ []) (filled p k (drop (i + 1) w)) d'' s
               (rw (drop_at w i h, filled_byte p k _ _ n) at v.left) u;
         }
 
-    pub going-item : get_or w i 0 ≡ 37 → (q : Piece) → q ≡ piece_after (drop (i + 1) w) → Wrote d' d'' o (piece_text p k q) s →
+    pub going_item : get_or w i 0 ≡ 37 → (q : Piece) → q ≡ piece_after (drop (i + 1) w) → Wrote d' d'' o (piece_text p k q) s →
         (j : ℕ) → j ≡ piece_length q → Going p k w d d'' (i + 1 + j) s
-    going-item e q a u j c =
+    going_item e q a u j c =
         record {
           high = item_high w i h q a j c;
           left = writing_more d d' 0 (filled p k w) o (piece_text p k q) (filled p k (drop (i + 1 + j) w)) d'' s
@@ -210,13 +210,13 @@ module _ (p : Profile) (short : ShortValues p) (k : ℕ) where
       q : Piece
       q = piece_after r
 
-      short-byte : length (f (Byte b)) ≡ 1
-      short-byte = ap length (byte_text p k b)
+      short_byte : length (f (Byte b)) ≡ 1
+      short_byte = ap length (byte_text p k b)
 
       go : (c : Bool) → ((j : ℕ) → length (concat_map f (pieces j r)) ≤ most_per_byte * (length r - j)) →
           length (concat_map f (elim c [ true ↦ q ∷ pieces (piece_length q) r | false ↦ Byte b ∷ pieces zero r ])) ≤ most_per_byte * (suc (length r) - 0)
       go true h = omega (arith, length-append (f q) (concat_map f (pieces (piece_length q) r)), short_piece q, piece_fits r, h (piece_length q))
-      go false h = omega (arith, ap length (concat_cons f (Byte b) (pieces zero r)) ∙ length-append (f (Byte b)) (concat_map f (pieces zero r)), short-byte, h zero)
+      go false h = omega (arith, ap length (concat_cons f (Byte b) (pieces zero r)) ∙ length-append (f (Byte b)) (concat_map f (pieces zero r)), short_byte, h zero)
 
   pub filled_short : (t : Text) → length (filled p k t) ≤ most_per_byte * length t
   unfolding filled
@@ -241,12 +241,12 @@ module _ (w : Text) (i : ℕ) (v : NonePercent w i) where
   none_end h = sym (v.rest ∙ rw (drop_of_length-le w h) (any_nil is_percent))
 
   module _ (h : i < length w) where
-    none-step : any_of is_percent w ≡ is_percent (get_or w i 0) || any_of is_percent (drop (i + 1) w)
+    none_step : any_of is_percent w ≡ is_percent (get_or w i 0) || any_of is_percent (drop (i + 1) w)
     unfolding any_of
-    none-step = v.rest ∙ rw (drop_at w i h)
+    none_step = v.rest ∙ rw (drop_at w i h)
 
     pub none_here : get_or w i 0 ≡ 37 → true ≡ any_of is_percent w
-    none_here e = sym (none-step ∙ rw (eq-eqb (get_or w i 0) 37 e))
+    none_here e = sym (none_step ∙ rw (eq-eqb (get_or w i 0) 37 e))
 
     pub none_more : (get_or w i 0 ≡ 37 → ⊥) → NonePercent w (i + 1)
-    none_more n = record { high = omega arith; rest = none-step ∙ rw (ne_eqb (get_or w i 0) 37 n) }
+    none_more n = record { high = omega arith; rest = none_step ∙ rw (ne_eqb (get_or w i 0) 37 n) }

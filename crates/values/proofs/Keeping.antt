@@ -18,7 +18,7 @@ use Rattle.rules.proofs.Pieces.{tail_whole}
 use Rattle.profile.specs.Profile.{push}
 use Rattle.values.specs.Spread.{is_sign, cuts, ends_all, stem, copies, spread}
 use Rattle.values.specs.Cutting.{upto, closes_all, FreeOfAll, FirstAll, ToColon, start_of, more_copies}
-use Rattle.values.proofs.Cuts.{beyond, InCut, later, cuts_first, first_cut, upto_sign, upto_other, upto_nil, beyond_other, upto_beyond, beyond_starts, CutEnd, in_cut_start, in-cut-more, in-cut-end, cut_at, cut_over}
+use Rattle.values.proofs.Cuts.{beyond, InCut, later, cuts_first, first_cut, upto_sign, upto_other, upto_nil, beyond_other, upto_beyond, beyond_starts, CutEnd, in_cut_start, in_cut_more, in_cut_end, cut_at, cut_over}
 use Rattle.values.proofs.Copying.{all_long, ends_long, first_copy, spread_nil}
 
 signless : (k : ℕ) → k < 4 → is_sign (get_or (bytes ":all") k 0) ≡ false
@@ -415,19 +415,19 @@ module _ (t : Text) (from c : ℕ) (f : FirstAll t from c) where
     inside : InCut t (p + 1) (c + 4)
     inside =
         let q₂ : c + 1 + 1 ≡ c + 2 = omega arith in
-        let v₂ : InCut t (p + 1) (c + 2) = rw q₂ at (in-cut-more t (p + 1) (c + 1) b.inside (omega (arith, long)) (all_signless t c closed 1 (omega arith))) in
+        let v₂ : InCut t (p + 1) (c + 2) = rw q₂ at (in_cut_more t (p + 1) (c + 1) b.inside (omega (arith, long)) (all_signless t c closed 1 (omega arith))) in
         let q₃ : c + 2 + 1 ≡ c + 3 = omega arith in
-        let v₃ : InCut t (p + 1) (c + 3) = rw q₃ at (in-cut-more t (p + 1) (c + 2) v₂ (omega (arith, long)) (all_signless t c closed 2 (omega arith))) in
+        let v₃ : InCut t (p + 1) (c + 3) = rw q₃ at (in_cut_more t (p + 1) (c + 2) v₂ (omega (arith, long)) (all_signless t c closed 2 (omega arith))) in
         let q₄ : c + 3 + 1 ≡ c + 4 = omega arith in
-        rw q₄ at (in-cut-more t (p + 1) (c + 3) v₃ (omega (arith, long)) (all_signless t c closed 3 (omega arith)))
+        rw q₄ at (in_cut_more t (p + 1) (c + 3) v₃ (omega (arith, long)) (all_signless t c closed 3 (omega arith)))
 
-    whole-piece : CutEnd t (p + 1) (c + 4)
-    whole-piece =
+    whole_piece : CutEnd t (p + 1) (c + 4)
+    whole_piece =
         let e : drop (c + 4) t ≡ beyond (drop c t) = sym (drop-drop 4 c t) ∙ closes_rest (drop c t) closed in
-        in-cut-end t (p + 1) (c + 4) inside (ap upto e ∙ beyond_starts (drop c t))
+        in_cut_end t (p + 1) (c + 4) inside (ap upto e ∙ beyond_starts (drop c t))
 
-    to-piece : (n : ℕ) → concat_map (spread n) (cuts (drop from t)) ≡ part t from p ++ concat_map (spread n) (cuts (drop p t))
-    to-piece n = go (ltb from p) refl
+    to_piece : (n : ℕ) → concat_map (spread n) (cuts (drop from t)) ≡ part t from p ++ concat_map (spread n) (cuts (drop p t))
+    to_piece n = go (ltb from p) refl
       where
         go : (u : Bool) → ltb from p ≡ u → concat_map (spread n) (cuts (drop from t)) ≡ part t from p ++ concat_map (spread n) (cuts (drop p t))
         go true q =
@@ -437,23 +437,23 @@ module _ (t : Text) (from c : ℕ) (f : FirstAll t from c) where
             (λ k x y. f.free.free k x (omega (arith, b.high)))
         go false q = let z : p ≡ from = omega (arith, ltb-false from p q, b.low) in rw (z, part_empty t from)
 
-    stem-all : part t p (c + 4) ≡ part t p c ++ bytes ":all"
+    stem_all : part t p (c + 4) ≡ part t p c ++ bytes ":all"
     unfolding part
-    stem-all =
+    stem_all =
         let z : c + 4 - c ≡ 4 = omega arith in
         let e : part t c (c + 4) ≡ bytes ":all" = rw z (ap (take 4) (closes_is (drop c t) closed) ∙ all_taken (beyond (drop c t))) in
         sym (part_join t p c (c + 4) b.high (omega arith)) ∙ ap (λ (x : Text). part t p c ++ x) e
 
-    pub kept-copies : (n : ℕ) → 1 ≤ n →
+    pub kept_copies : (n : ℕ) → 1 ≤ n →
         concat_map (spread n) (cuts (drop from t)) ≡ part t from c ++ ((58 ∷ decimal 1) ++ (more_copies n t from c ++ concat_map (spread n) (cuts (drop (c + 4) t))))
     unfolding more_copies
-    kept-copies n h =
+    kept_copies n h =
         let r = concat_map (spread n) (cuts (drop (c + 4) t)) in
         let e : copies n 1 (part t p c) ≡ part t p c ++ ((58 ∷ decimal 1) ++ copies (n - 1) 2 (part t p c)) = first_copy n (part t p c) h in
-        to-piece n
+        to_piece n
         ∙ (ap (λ (x : Text). part t from p ++ x)
-        (cut_at (spread n) t p (c + 4) (spread_nil n) (omega (arith, b.high)) whole-piece
-        ∙ ap (λ (x : Text). x ++ r) (ap (spread n) stem-all ∙ (spread_closed n (part t p c) ∙ e)))
+        (cut_at (spread n) t p (c + 4) (spread_nil n) (omega (arith, b.high)) whole_piece
+        ∙ ap (λ (x : Text). x ++ r) (ap (spread n) stem_all ∙ (spread_closed n (part t p c) ∙ e)))
         ∙ (ap (λ (x : Text). part t from p ++ x) (append_assoc (part t p c) ((58 ∷ decimal 1) ++ copies (n - 1) 2 (part t p c)) r)
         ∙ (sym (append_assoc (part t from p) (part t p c) (((58 ∷ decimal 1) ++ copies (n - 1) 2 (part t p c)) ++ r))
         ∙ (ap (λ (x : Text). x ++ (((58 ∷ decimal 1) ++ copies (n - 1) 2 (part t p c)) ++ r)) (part_join t from p c b.low b.high)

@@ -72,20 +72,20 @@ module _ (s : Text) (b : List ℕ) where
   count_at n = sym (values_length 1 n)
 
   module _ (p : Placed s b) where
-    short-nth : (j n i : ℕ) → length (get_or (values_from s b j n) i []) ≤ longest_field
-    short-nth j n i = go (ltb i n) refl
+    short_nth : (j n i : ℕ) → length (get_or (values_from s b j n) i []) ≤ longest_field
+    short_nth j n i = go (ltb i n) refl
       where
         go : (c : Bool) → ltb i n ≡ c → length (get_or (values_from s b j n) i []) ≤ longest_field
         go true e = rw (values_at j n i (ltb-true i n e)) (short_at s b p (j + i))
         go false e = rw (values_beyond j n i (ltb-false i n e)) (omega arith)
 
-    pub short-placed : (n : ℕ) → ShortValues (profile_at s b n)
+    pub short_placed : (n : ℕ) → ShortValues (profile_at s b n)
     unfolding profile_at
-    short-placed n =
+    short_placed n =
         record {
           model = short_at s b p 0;
-          layouts = λ i. short-nth (suc before_layouts) n i;
-          variants = λ i. short-nth (suc before_variants) n i;
+          layouts = λ i. short_nth (suc before_layouts) n i;
+          variants = λ i. short_nth (suc before_variants) n i;
         }
 
   -- the values behind a number are those of a list that has no more

@@ -13,7 +13,7 @@ use Rattle.values.specs.Spread.{cuts, copies, spread}
 use Rattle.values.specs.Cutting.{FirstAll, start_of, sign_of, behind_sign, more_copies}
 use Rattle.values.proofs.Writes.{Writing, writing_start, writing_more, writing_end}
 use Rattle.values.proofs.Copying.{copies_zero, copies_by, behind_short, few_copies, copies_counted}
-use Rattle.values.proofs.Keeping.{start_low, kept_last, long, kept-copies}
+use Rattle.values.proofs.Keeping.{start_low, kept_last, long, kept_copies}
 
 -- a position within the buffer
 past_near : (at n : ℕ) → at + n ≤ farthest → at + n ≡ past at n
@@ -45,15 +45,15 @@ module _ (t : Text) (from c s n : ℕ) (e : s ≡ start_of t from c) where
   more_wrote b r d d' at o x y w = rw piece (rw (copies_by (n - 1) u b r x y) at w)
 
   module _ (r : Text) (some : 1 ≤ n) (few : n < 10) (y : r ≡ behind_sign u) where
-    pub more-counted : (m : ℕ) → m ≡ (n - 1) * (length r + 3) → m ≡ length (more_copies n t from c)
-    more-counted m z = z ∙ (copies_counted n u r some few y ∙ ap length (sym piece))
+    pub more_counted : (m : ℕ) → m ≡ (n - 1) * (length r + 3) → m ≡ length (more_copies n t from c)
+    more_counted m z = z ∙ (copies_counted n u r some few y ∙ ap length (sym piece))
 
-    pub more-written : (b : ℕ) (d d' : Text) (at a o m : ℕ) → b ≡ sign_of u → a ≡ at → d' ≡ stored d a (copies (n - 1) 2 (b ∷ r)) → m ≡ (n - 1) * (length r + 3) →
+    pub more_written : (b : ℕ) (d d' : Text) (at a o m : ℕ) → b ≡ sign_of u → a ≡ at → d' ≡ stored d a (copies (n - 1) 2 (b ∷ r)) → m ≡ (n - 1) * (length r + 3) →
         a + m ≤ length d → length d ≤ farthest → o ≡ at + m → Wrote d d' at (more_copies n t from c) o
-    more-written b d d' at a o m x q w z h l v =
+    more_written b d d' at a o m x q w z h l v =
         record {
           text = w ∙ rw (q, copies_by (n - 1) u b r x y, piece) refl;
-          next = v ∙ (past_near at m (omega arith) ∙ ap (past at) (more-counted m z));
+          next = v ∙ (past_near at m (omega arith) ∙ ap (past at) (more_counted m z));
         }
 
 -- the loop of `put_spread`: the pieces from i on are left
@@ -73,18 +73,18 @@ module _ (t : Text) (n : ℕ) (d d' : Text) (at i o : ℕ) (v : Spreading t n d 
 
   module _ (m : c < length t) (some : 1 ≤ n) (w : Wrote d' d₁ o (part t i c ++ (58 ∷ decimal 1)) o₁) where
     -- what is left behind the first copy: the other copies, and the pieces after them
-    pub spreading-copies : Writing d d₁ at (concat_map (spread n) (cuts t)) o₁ (more_copies n t i c ++ concat_map (spread n) (cuts (drop (c + 4) t)))
-    spreading-copies =
+    pub spreading_copies : Writing d d₁ at (concat_map (spread n) (cuts t)) o₁ (more_copies n t i c ++ concat_map (spread n) (cuts (drop (c + 4) t)))
+    spreading_copies =
         let r = more_copies n t i c ++ concat_map (spread n) (cuts (drop (c + 4) t)) in
         let e : concat_map (spread n) (cuts (drop i t)) ≡ (part t i c ++ (58 ∷ decimal 1)) ++ r =
-        kept-copies t i c f m n some ∙ sym (append_assoc (part t i c) (58 ∷ decimal 1) r) in
+        kept_copies t i c f m n some ∙ sym (append_assoc (part t i c) (58 ∷ decimal 1) r) in
         writing_more d d' at (concat_map (spread n) (cuts t)) o (part t i c ++ (58 ∷ decimal 1)) r d₁ o₁ (rw e at v.left) w
 
-    pub spreading-more : (d₂ : Text) (o₂ : ℕ) → Wrote d₁ d₂ o₁ (more_copies n t i c) o₂ → Spreading t n d d₂ at (c + 4) o₂
-    spreading-more d₂ o₂ y =
+    pub spreading_more : (d₂ : Text) (o₂ : ℕ) → Wrote d₁ d₂ o₁ (more_copies n t i c) o₂ → Spreading t n d d₂ at (c + 4) o₂
+    spreading_more d₂ o₂ y =
         record {
           high = long t i c f m;
-          left = writing_more d d₁ at (concat_map (spread n) (cuts t)) o₁ (more_copies n t i c) _ d₂ o₂ spreading-copies y;
+          left = writing_more d d₁ at (concat_map (spread n) (cuts t)) o₁ (more_copies n t i c) _ d₂ o₂ spreading_copies y;
         }
 
 pub first_inside : (d d₁ x : Text) (a n : ℕ) → d₁ ≡ stored d a x → a + n + 2 ≤ length d → a + n + 1 < length (set d₁ (a + n) 58)
@@ -129,9 +129,9 @@ module _ (t : Text) (n i m : ℕ) (v : Counting t n i m) (c : ℕ) (f : FirstAll
   counting_end h = sym (v.left ∙ ap (λ (x : ℕ). m + x) (ap length (kept_last t i c f n h) ∙ kept_long))
 
   module _ (l : c < length t) (some : 1 ≤ n) (few : n < 10) (k : ℕ) (e : k ≡ length (more_copies n t i c)) where
-    pub counting-few : k ≤ 9 * (c - i + 3)
+    pub counting_few : k ≤ 9 * (c - i + 3)
     unfolding more_copies
-    counting-few =
+    counting_few =
         let s = start_of t i c in
         let a = start_low t i c f.free.low l in
         let r = behind_sign (part t s c) in
@@ -147,13 +147,13 @@ module _ (t : Text) (n i m : ℕ) (v : Counting t n i m) (c : ℕ) (f : FirstAll
     unfolding decimal
     counting_more =
         let r = concat_map (spread n) (cuts (drop (c + 4) t)) in
-        let x = kept-copies t i c f l n some in
+        let x = kept_copies t i c f l n some in
         let y : length (concat_map (spread n) (cuts (drop i t))) ≡ c - i + (2 + (k + length r)) =
         ap length x
         ∙ (length-append (part t i c) ((58 ∷ decimal 1) ++ (more_copies n t i c ++ r))
         ∙ rw (kept_long, length-append (58 ∷ decimal 1) (more_copies n t i c ++ r), length-append (more_copies n t i c) r, ← e) refl) in
         record {
           high = long t i c f l;
-          most = omega (arith, v.most, counting-few, f.free.low);
+          most = omega (arith, v.most, counting_few, f.free.low);
           left = v.left ∙ omega (arith, y);
         }

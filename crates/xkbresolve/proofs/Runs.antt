@@ -70,9 +70,9 @@ module _ (d d' : Text) (r : ℕ) (enough : most_printed ≤ length d) (low : len
     end : Wrote d d' 0 (printed (answer (length x) f t)) r → Out (input_answer s)
     end w = rw (← same, ← lent) (out (answer (length x) f t) (printed_length (length x) f t lent) w)
 
-    pub out-refused : (o.number ≡ 0 → ⊥) → Wrote d d' 0 (refusal_line o.number o.place) r → Out (input_answer s)
+    pub out_refused : (o.number ≡ 0 → ⊥) → Wrote d d' 0 (refusal_line o.number o.place) r → Out (input_answer s)
     unfolding number_of place_of printed
-    out-refused h w = end (go (answer (length x) f t) refl)
+    out_refused h w = end (go (answer (length x) f t) refl)
       where
         go : (a : Answer) → answer (length x) f t ≡ a → Wrote d d' 0 (printed a) r
         go (refused q) e =
@@ -81,9 +81,9 @@ module _ (d d' : Text) (r : ℕ) (enough : most_printed ≤ length d) (low : len
             rw (← n, ← p) w
         go (accepted ts) e = absurd (h (number ∙ ap number_of e))
 
-    pub out-accepted : (b : Text) → o.number ≡ 0 → b ≡ buffer_after x (answer (length x) f t) → Wrote d d' 0 (stretch_lines names 0 b o.lengths) r → Out (input_answer s)
+    pub out_accepted : (b : Text) → o.number ≡ 0 → b ≡ buffer_after x (answer (length x) f t) → Wrote d d' 0 (stretch_lines names 0 b o.lengths) r → Out (input_answer s)
     unfolding number_of printed Answered
-    out-accepted b h k w = end (go (answer (length x) f t) refl (answered (length x) f t))
+    out_accepted b h k w = end (go (answer (length x) f t) refl (answered (length x) f t))
       where
         go : (a : Answer) → answer (length x) f t ≡ a → Answered (length x) a → Wrote d d' 0 (printed a) r
         go (refused q) e u = absurd (omega (arith, u.0, sym (number ∙ ap number_of e) ∙ h))

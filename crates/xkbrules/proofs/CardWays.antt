@@ -31,14 +31,14 @@ module _ (t : Texts) (x s d : Text) where
 
   -- with a sheet under 40 bytes the profile alone decides
   module _ (p : Refusal) (found : p ≡ first_refusal (profile_refusals t)) (n : ℕ) where
-    pub write-profile : (p.number ≡ 0 → ⊥) → n ≡ p.number * 2 ^ 48 + p.place → CardWrites t x s d d n
+    pub write_profile : (p.number ≡ 0 → ⊥) → n ≡ p.number * 2 ^ 48 + p.place → CardWrites t x s d d n
     unfolding entry_writing entry_write_refusals
-    write-profile h e =
+    write_profile h e =
         refuses p n d (some_refusal (profile_refusals t) _ (lent_texts t x (lengths_in s)) (unempty t p found h) ∙ ap refused (sym found)) e refl
 
-    pub write-sheet : p.number ≡ 0 → length s < sheet_length → n ≡ 11 * 2 ^ 48 + 0 → CardWrites t x s d d n
+    pub write_sheet : p.number ≡ 0 → length s < sheet_length → n ≡ 11 * 2 ^ 48 + 0 → CardWrites t x s d d n
     unfolding entry_writing entry_write_refusals refused_if first_of
-    write-sheet h k e = refuses (record { number = 11; place = 0 }) n d (rw (unrefused t p found h, lt-ltb (length s) sheet_length k)) e refl
+    write_sheet h k e = refuses (record { number = 11; place = 0 }) n d (rw (unrefused t p found h, lt-ltb (length s) sheet_length k)) e refl
 
   -- with any other, the answer is the writing's
   pub entry_write : sheet_length ≤ length s → entry_writing (length d) t x s ≡ write_answer (length d) t x (lengths_in s)
@@ -56,8 +56,8 @@ module _ (t : Texts) (x s d : Text) where
         let q = same ∙ w.answer in
         record { returned = e ∙ w.size ∙ rw q; card = w.card ∙ rw q }
 
-    pub write-refused : (r.number ≡ 0 → ⊥) → n ≡ r.number * 2 ^ 48 + r.place → CardWrites t x s d d' n
-    write-refused h e = let w = kept t x ns d d' r v h in refuses (record { number = r.number; place = r.place }) n d' (same ∙ w.answer) e w.card
+    pub write_refused : (r.number ≡ 0 → ⊥) → n ≡ r.number * 2 ^ 48 + r.place → CardWrites t x s d d' n
+    write_refused h e = let w = kept t x ns d d' r v h in refuses (record { number = r.number; place = r.place }) n d' (same ∙ w.answer) e w.card
 
 -- reading
 
@@ -77,12 +77,12 @@ module _ (c d s : Text) where
 
   -- with a sheet under 56 bytes the card alone decides
   module _ (j : CardRead) (found : j ≡ read_of (judged c)) (n : ℕ) where
-    pub read-broken : (j.number ≡ 0 → ⊥) → n ≡ 16 * 2 ^ 48 + 0 → CardReads c d d s s n
-    read-broken h e = turns_away (record { number = 16; place = 0 }) n d (entry_refuses _ (judged_refused c j found h (length d))) e refl
+    pub read_broken : (j.number ≡ 0 → ⊥) → n ≡ 16 * 2 ^ 48 + 0 → CardReads c d d s s n
+    read_broken h e = turns_away (record { number = 16; place = 0 }) n d (entry_refuses _ (judged_refused c j found h (length d))) e refl
 
-    pub read-sheet : j.number ≡ 0 → length s < card_sheet_length → n ≡ 11 * 2 ^ 48 + 0 → CardReads c d d s s n
+    pub read_sheet : j.number ≡ 0 → length s < card_sheet_length → n ≡ 11 * 2 ^ 48 + 0 → CardReads c d d s s n
     unfolding entry_reading entry_read_refusals read_refusals refused_if first_of
-    read-sheet h k e = turns_away (record { number = 11; place = 0 }) n d (eleven (ltb (length d) (total (texts_on c))) refl) e refl
+    read_sheet h k e = turns_away (record { number = 11; place = 0 }) n d (eleven (ltb (length d) (total (texts_on c))) refl) e refl
       where
         eleven : (b : Bool) → ltb (length d) (total (texts_on c)) ≡ b → entry_reading (length d) (length s) c ≡ refused (record { number = 11; place = 0 })
         eleven true z = rw (judged_clear c j found h, z)
@@ -101,7 +101,7 @@ module _ (c d s : Text) where
         let q = entry_read k ∙ w.answer in
         record { returned = rw q; texts = w.texts ∙ rw q; sheet = e ∙ rw (q, w.lengths) }
 
-    pub read-refused : (n : ℕ) → (r.number ≡ 0 → ⊥) → n ≡ r.number * 2 ^ 48 + 0 → CardReads c d d' s s n
-    read-refused n h e =
+    pub read_refused : (n : ℕ) → (r.number ≡ 0 → ⊥) → n ≡ r.number * 2 ^ 48 + 0 → CardReads c d d' s s n
+    read_refused n h e =
         let w = untouched c d d' r v h in
         turns_away (record { number = r.number; place = 0 }) n d' (entry_refuses _ w.answer) e w.texts

@@ -183,23 +183,23 @@ module _ (t : Texts) (x s d d' : Text) (n : ℕ) (v : CardWrites t x s d d' n) (
   ts = lent_texts t x (lengths_in s)
 
   module _ (e e' sh sh' : Text) (m : ℕ) (w : CardReads (take n d') e e' sh sh' m) (long : card_sheet_length ≤ length sh) (room : total ts ≤ length e) where
-    read-so : read_answer (length e) (card_of ts) ≡ accepted ts
-    read-so = read_back (length d) t x (lengths_in s) ts (sent t x s d d' n v done).answer (ten s) (length e) room
+    read_so : read_answer (length e) (card_of ts) ≡ accepted ts
+    read_so = read_back (length d) t x (lengths_in s) ts (sent t x s d d' n v done).answer (ten s) (length e) room
 
     entered : entry_reading (length e) (length sh) (take n d') ≡ accepted ts
-    entered = rw (sent t x s d d' n v done).card (entry_read (card_of ts) e sh long ∙ read-so)
+    entered = rw (sent t x s d d' n v done).card (entry_read (card_of ts) e sh long ∙ read_so)
 
-    pub desk-number : m ≡ 0
+    pub desk_number : m ≡ 0
     unfolding code number_of place_of
-    desk-number = w.returned ∙ ap code entered
+    desk_number = w.returned ∙ ap code entered
 
-    pub desk-had : Had (take n d') e sh e' sh' ts
-    desk-had =
-        had (take n d') e sh e' sh' ts (read_count (length e) (card_of ts) ts read-so) (sent-few (sent t x s d d' n v done).answer (ten s)) long
+    pub desk_had : Had (take n d') e sh e' sh' ts
+    desk_had =
+        had (take n d') e sh e' sh' ts (read_count (length e) (card_of ts) ts read_so) (sent_few (sent t x s d d' n v done).answer (ten s)) long
         (w.texts ∙ ap (buffer_after e) entered) (w.sheet ∙ ap (card_sheet_after sh) entered)
       where
-        sent-few : write_answer (length d) t x (lengths_in s) ≡ accepted ts → length (lengths_in s) ≡ 10 → total ts < 2 ^ 32
-        sent-few q k = omega (arith, written_few (length d) t x (lengths_in s) ts q k)
+        sent_few : write_answer (length d) t x (lengths_in s) ≡ accepted ts → length (lengths_in s) ≡ 10 → total ts < 2 ^ 32
+        sent_few q k = omega (arith, written_few (length d) t x (lengths_in s) ts q k)
 
 -- what a desk has read is written as the card that it read
 
@@ -256,8 +256,8 @@ module _ (c e e' sh sh' : Text) (v : CardReads c e e' sh sh' 0) (b : Bytes c) wh
       rw (ten_behind sh') (omega (arith, h.room, sum_behind 4 ns, length-drop (sum (take 4 ns)) e'))
 
   module _ (d d' : Text) (n : ℕ) (w : CardWrites read_profile read_texts (drop 16 sh') d d' n) (room : length c ≤ length d) where
-    writes-so : entry_writing (length d) read_profile read_texts (drop 16 sh') ≡ accepted (texts_on c)
-    writes-so =
+    writes_so : entry_writing (length d) read_profile read_texts (drop 16 sh') ≡ accepted (texts_on c)
+    writes_so =
         let h = read_had c e e' sh sh' v b in
         entry_write read_profile read_texts (drop 16 sh') d (omega (arith, h.long, length-drop 16 sh'))
         ∙ written_so (length e) c (texts_on c) (read_answer_lem c e e' sh sh' v) b read_profile read_texts (lengths_in (drop 16 sh')) same_texts same_sum (length d) room
@@ -265,12 +265,12 @@ module _ (c e e' sh sh' : Text) (v : CardReads c e e' sh sh' 0) (b : Bytes c) wh
     spelled : card_of (texts_on c) ≡ c
     spelled = spelled_so (length e) c (texts_on c) (read_answer_lem c e e' sh sh' v) b
 
-    pub server-number : n ≡ length c
+    pub server_number : n ≡ length c
     unfolding write_code
-    server-number = w.returned ∙ ap write_code writes-so ∙ ap length spelled
+    server_number = w.returned ∙ ap write_code writes_so ∙ ap length spelled
 
-    pub server-card : take n d' ≡ c
+    pub server_card : take n d' ≡ c
     unfolding card_after
-    server-card =
-        let k : d' ≡ c ++ drop (length c) d = w.card ∙ ap (card_after d) writes-so ∙ rw spelled in
-        rw (server-number, k) (take-append_seam c (drop (length c) d))
+    server_card =
+        let k : d' ≡ c ++ drop (length c) d = w.card ∙ ap (card_after d) writes_so ∙ rw spelled in
+        rw (server_number, k) (take-append_seam c (drop (length c) d))

@@ -62,18 +62,18 @@ module _ (room sheet : ℕ) (f : Text) (t : Texts) where
     unfolding entry_answer
     first = accepted_first (entry_refusals room sheet f t) (ten_texts f t) ts h
 
-    pub entry-long : sheet_length ≤ sheet
+    pub entry_long : sheet_length ≤ sheet
     unfolding entry_refusals
-    entry-long = untested sheet sheet_length 11 0 (nil_right (refusals room f t) _ first.0)
+    entry_long = untested sheet sheet_length 11 0 (nil_right (refusals room f t) _ first.0)
 
-    pub entry-accepted : answer room f t ≡ accepted ts
-    entry-accepted = sym (entry_same entry-long) ∙ h
+    pub entry_accepted : answer room f t ≡ accepted ts
+    entry_accepted = sym (entry_same entry_long) ∙ h
 
 -- the sheet after an accepted answer
 
 module _ (room : ℕ) (s f : Text) (t : Texts) (ts : List Text) (h : entry_answer room (length s) f t ≡ accepted ts) where
   abbrev fit : (length ts ≡ 10) × (total ts ≤ room) × (total ts ≤ longest_total)
-  fit = texts_fit room f t ts (entry-accepted room (length s) f t ts h)
+  fit = texts_fit room f t ts (entry_accepted room (length s) f t ts h)
 
   pub entry_lengths : lengths_in (sheet_after s (accepted ts)) ≡ lengths_of (accepted ts)
   unfolding lengths_of
@@ -83,14 +83,14 @@ module _ (room : ℕ) (s f : Text) (t : Texts) (ts : List Text) (h : entry_answe
   entry_later = sheet_later s ts fit.0
 
   pub entry_size : length (sheet_after s (accepted ts)) ≡ length s
-  entry_size = sheet_long s ts fit.0 (entry-long room (length s) f t ts h)
+  entry_size = sheet_long s ts fit.0 (entry_long room (length s) f t ts h)
 
   -- the code of a component is its place within the texts
   pub entry_component : (c : ℕ) → c ≤ 4 →
       component_code room (sheet_after s (accepted ts)) c ≡ stretch_start (lengths_of (accepted ts)) c * 2 ^ 32 + stretch_length (lengths_of (accepted ts)) c
   unfolding component_code total lengths_of
   entry_component c k =
-      let l : sheet_length ≤ length (sheet_after s (accepted ts)) = omega (arith, entry_size, entry-long room (length s) f t ts h) in
+      let l : sheet_length ≤ length (sheet_after s (accepted ts)) = omega (arith, entry_size, entry_long room (length s) f t ts h) in
       rw (
         le-ltb 4 c k,
         le-ltb (length (sheet_after s (accepted ts))) sheet_length l,

@@ -131,14 +131,14 @@ module _ (room : ℕ) (s : Text) (c : ℕ) (ns : List ℕ) (n : ℕ) (few : c �
       )
 
   module _ (a e : ℕ) (start : a ≡ sum (take (2 * c) ns)) (end : e ≡ sum (take (2 * c + 2) ns)) where
-    pub code-bounds : n < 2 ^ 32 → (a ≤ e) × (e < 2 ^ 32)
+    pub code_bounds : n < 2 ^ 32 → (a ≤ e) × (e < 2 ^ 32)
     unfolding lengths_in
-    code-bounds h =
+    code_bounds h =
         (in_order [] ns c n (rw held (numbers_length s 0 10)) summed a e start end, rw (end, held) (omega (arith, whole, sum_take (2 * c + 2) (lengths_in s))))
 
-    pub code-found : n ≤ room → n < 2 ^ 32 → a * 2 ^ 32 + (e - a) ≡ component_code room s c
+    pub code_found : n ≤ room → n < 2 ^ 32 → a * 2 ^ 32 + (e - a) ≡ component_code room s c
     unfolding component_code stretch_start stretch_length
-    code-found h k =
+    code_found h k =
         let d : 2 * (c + 1) ≡ 2 * c + 2 = omega arith in
         rw (
           le-ltb 4 c few,

@@ -49,19 +49,19 @@ module _ (d f : Text) (t : Texts) (o : Outcome) (found : o ≡ outcome (answer (
         go (accepted ts) q = absurd (h (number ∙ ap number_of q))
 
     -- a sheet that is too short for an accepted answer
-    pub way-short : (n : ℕ) → length s < sheet_length → o.number ≡ 0 → n ≡ 11 * 2 ^ 48 + 0 → Entered d s d s n (entry_answer (length d) (length s) f t)
+    pub way_short : (n : ℕ) → length s < sheet_length → o.number ≡ 0 → n ≡ 11 * 2 ^ 48 + 0 → Entered d s d s n (entry_answer (length d) (length s) f t)
     unfolding number_of place_of code buffer_after sheet_after Answered
-    way-short n k h e = go (answer (length d) f t) refl (answered (length d) f t)
+    way_short n k h e = go (answer (length d) f t) refl (answered (length d) f t)
       where
         go : (a : Answer) → answer (length d) f t ≡ a → Answered (length d) a → Entered d s d s n (entry_answer (length d) (length s) f t)
         go (refused r) q w = absurd (omega (arith, w.0, sym (number ∙ ap number_of q) ∙ h))
         go (accepted ts) q w = let x = entry_short (length d) (length s) f t ts k q in (rw x e, rw x, rw x)
 
     -- an accepted answer
-    pub way-accepted : (d' s' : Text) → sheet_length ≤ length s → o.number ≡ 0 → d' ≡ buffer_after d (answer (length d) f t) →
+    pub way_accepted : (d' s' : Text) → sheet_length ≤ length s → o.number ≡ 0 → d' ≡ buffer_after d (answer (length d) f t) →
         s' ≡ concat_map little_endian o.lengths ++ drop sheet_length s → Entered d s d' s' 0 (entry_answer (length d) (length s) f t)
     unfolding number_of place_of lengths_of code buffer_after sheet_after Answered
-    way-accepted d' s' k h b c = go (answer (length d) f t) refl (answered (length d) f t)
+    way_accepted d' s' k h b c = go (answer (length d) f t) refl (answered (length d) f t)
       where
         go : (a : Answer) → answer (length d) f t ≡ a → Answered (length d) a → Entered d s d' s' 0 (entry_answer (length d) (length s) f t)
         go (refused r) q w = absurd (omega (arith, w.0, sym (number ∙ ap number_of q) ∙ h))

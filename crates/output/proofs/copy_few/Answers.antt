@@ -1,15 +1,15 @@
 use Prim.Native.Nat.{◌+◌}
 use native.Mathlib.Omega.{arith}
 use lib.ListN.{get_or, set}
-use Rattle.output.proofs.Stores.{copy_inside, set_inside, few-none, few-one, few-two, few-three}
+use Rattle.output.proofs.Stores.{copy_inside, set_inside, few_none, few_one, few_two, few_three}
 use Rattle.output.proofs.copy_few.Goals as goal
 
 pub returns-then-n-eq0 : goal.returns-then-n-eq0
-returns-then-n-eq0 c = few-none _ _ _ _ _ c.requires.1 c.if-n-eq0.true
+returns-then-n-eq0 c = few_none _ _ _ _ _ c.requires.1 c.if-n-eq0.true
 
 pub returns-then-n-eq1 : goal.returns-then-n-eq1
 returns-then-n-eq1 c =
-    few-one _ _ _ _ _ c.requires.1 c.if-n-eq1.true
+    few_one _ _ _ _ _ c.requires.1 c.if-n-eq1.true
 
 pub bounds-out-start-2 : goal.bounds-out-start-2
 bounds-out-start-2 c =
@@ -17,7 +17,7 @@ bounds-out-start-2 c =
 
 pub returns-then-n-eq2 : goal.returns-then-n-eq2
 returns-then-n-eq2 c =
-    few-two _ _ _ _ _ c.requires.1 c.if-n-eq2.true
+    few_two _ _ _ _ _ c.requires.1 c.if-n-eq2.true
 
 pub bounds-out-start-3 : goal.bounds-out-start-3
 bounds-out-start-3 c =
@@ -26,4 +26,4 @@ bounds-out-start-3 c =
 
 pub returns : goal.returns
 returns c =
-    few-three _ _ _ _ _ c.requires.1 (omega (arith, c.requires.0, c.if-n-eq2.false, c.if-n-eq1.false, c.if-n-eq0.false))
+    few_three _ _ _ _ _ c.requires.1 (omega (arith, c.requires.0, c.if-n-eq2.false, c.if-n-eq1.false, c.if-n-eq0.false))

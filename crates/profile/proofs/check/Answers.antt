@@ -1,5 +1,5 @@
 use mathlib.Core.Path.{sym, ◌∙◌}
-use Rattle.profile.proofs.Refused.{Clear, refused_model, refused_layouts, refused_variants, refused_options, refused-count, refused-more, refused-many, refused_none}
+use Rattle.profile.proofs.Refused.{Clear, refused_model, refused_layouts, refused_variants, refused_options, refused_count, refused_more, refused_many, refused_none}
 use Rattle.profile.proofs.check.Goals as goal
 
 pub returns-then-bad_model : goal.returns-then-bad_model
@@ -18,15 +18,15 @@ returns-then-bad_fields-3 c =
     c.refusal-then-bad_fields-3.ensures ∙ refused_options _ _ _ _ (sym c.bad_model.ensures ∙ c.if-bad_model.false) (sym c.bad_fields.ensures ∙ c.if-bad_fields.false) (sym c.bad_fields-2.ensures ∙ c.if-bad_fields-2.false) (sym c.bad_fields-3.ensures ∙ c.if-bad_fields-3.true)
 
 pub returns-then-n-gt4 : goal.returns-then-n-gt4
-returns-then-n-gt4 c = c.refusal-then-n-gt4.ensures ∙ refused-count _ _ _ _ record { model = sym c.bad_model.ensures ∙ c.if-bad_model.false; layouts = sym c.bad_fields.ensures ∙ c.if-bad_fields.false; variants = sym c.bad_fields-2.ensures ∙ c.if-bad_fields-2.false; options = sym c.bad_fields-3.ensures ∙ c.if-bad_fields-3.false } _ c.field_count-n.ensures c.if-n-gt4.true
+returns-then-n-gt4 c = c.refusal-then-n-gt4.ensures ∙ refused_count _ _ _ _ record { model = sym c.bad_model.ensures ∙ c.if-bad_model.false; layouts = sym c.bad_fields.ensures ∙ c.if-bad_fields.false; variants = sym c.bad_fields-2.ensures ∙ c.if-bad_fields-2.false; options = sym c.bad_fields-3.ensures ∙ c.if-bad_fields-3.false } _ c.field_count-n.ensures c.if-n-gt4.true
 
 pub returns-then-n-field_count : goal.returns-then-n-field_count
 returns-then-n-field_count c =
-    c.refusal-then-n-field_count.ensures ∙ refused-more _ _ _ _ record { model = sym c.bad_model.ensures ∙ c.if-bad_model.false; layouts = sym c.bad_fields.ensures ∙ c.if-bad_fields.false; variants = sym c.bad_fields-2.ensures ∙ c.if-bad_fields-2.false; options = sym c.bad_fields-3.ensures ∙ c.if-bad_fields-3.false } _ c.field_count-n.ensures c.if-n-gt4.false _ c.field_count.ensures c.if-n-field_count.true
+    c.refusal-then-n-field_count.ensures ∙ refused_more _ _ _ _ record { model = sym c.bad_model.ensures ∙ c.if-bad_model.false; layouts = sym c.bad_fields.ensures ∙ c.if-bad_fields.false; variants = sym c.bad_fields-2.ensures ∙ c.if-bad_fields-2.false; options = sym c.bad_fields-3.ensures ∙ c.if-bad_fields-3.false } _ c.field_count-n.ensures c.if-n-gt4.false _ c.field_count.ensures c.if-n-field_count.true
 
 pub returns-then-option_count-gt64 : goal.returns-then-option_count-gt64
 returns-then-option_count-gt64 c =
-    c.refusal-then-option_count-gt64.ensures ∙ refused-many _ _ _ _ record { model = sym c.bad_model.ensures ∙ c.if-bad_model.false; layouts = sym c.bad_fields.ensures ∙ c.if-bad_fields.false; variants = sym c.bad_fields-2.ensures ∙ c.if-bad_fields-2.false; options = sym c.bad_fields-3.ensures ∙ c.if-bad_fields-3.false } _ c.field_count-n.ensures c.if-n-gt4.false _ c.field_count.ensures c.if-n-field_count.false _ c.option_count.ensures c.if-option_count-gt64.true
+    c.refusal-then-option_count-gt64.ensures ∙ refused_many _ _ _ _ record { model = sym c.bad_model.ensures ∙ c.if-bad_model.false; layouts = sym c.bad_fields.ensures ∙ c.if-bad_fields.false; variants = sym c.bad_fields-2.ensures ∙ c.if-bad_fields-2.false; options = sym c.bad_fields-3.ensures ∙ c.if-bad_fields-3.false } _ c.field_count-n.ensures c.if-n-gt4.false _ c.field_count.ensures c.if-n-field_count.false _ c.option_count.ensures c.if-option_count-gt64.true
 
 pub returns : goal.returns
 returns c =

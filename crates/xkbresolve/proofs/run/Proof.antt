@@ -3,7 +3,7 @@ use Rattle.xkbresolve.proofs.run.Statement.{statement}
 use Rattle.xkbresolve.proofs.run.Tie as tie
 use Prim.Native.Nat.{ℕ}
 use lib.ListN.{replicate, length-replicate}
-use Rattle.xkbresolve.proofs.Runs.{input_answer_lem, out_long, out-refused, out-accepted}
+use Rattle.xkbresolve.proofs.Runs.{input_answer_lem, out_long, out_refused, out_accepted}
 
 put-refusal-requires : tie.Need-put-refusal-requires
 put-refusal-requires c κs = search rules
@@ -73,7 +73,7 @@ returns-2 c =
     let the-later-lines4 = c.before.before.before.before.before.before.before.before.before.later-lines4 in
     let the-resolve = c.before.before.before.before.before.before.before.resolve in
     let the-if2 = c.before.before.before.before.if2 in
-    out-refused _ _ _ start.requires.0 start.requires.1 start.args.input.now (replicate 65536 0) _ _ _ (length-replicate {A = ℕ} 65536 0) the-resolve.ensures.result
+    out_refused _ _ _ start.requires.0 start.requires.1 start.args.input.now (replicate 65536 0) _ _ _ (length-replicate {A = ℕ} 65536 0) the-resolve.ensures.result
     (input_answer_lem _ _ _ _ _ _ _ _ _ the-if1.false the-first-line.ensures the-later-lines.ensures the-first-line2.ensures the-later-lines2.ensures
     the-first-line3.ensures the-later-lines3.ensures the-first-line4.ensures the-later-lines4.ensures)
     the-if2.true c.before.before.put-refusal2.ensures
@@ -106,7 +106,7 @@ returns-3 c =
     let the-later-lines4 = c.before.before.before.before.before.before.before.before.before.before.before.later-lines4 in
     let the-resolve = c.before.before.before.before.before.before.before.before.before.resolve in
     let the-if2 = c.before.before.before.before.before.before.if2 in
-    out-accepted _ _ _ start.requires.0 start.requires.1 start.args.input.now (replicate 65536 0) _ _ _ (length-replicate {A = ℕ} 65536 0) the-resolve.ensures.result
+    out_accepted _ _ _ start.requires.0 start.requires.1 start.args.input.now (replicate 65536 0) _ _ _ (length-replicate {A = ℕ} 65536 0) the-resolve.ensures.result
     (input_answer_lem _ _ _ _ _ _ _ _ _ the-if1.false the-first-line.ensures the-later-lines.ensures the-first-line2.ensures the-later-lines2.ensures
     the-first-line3.ensures the-later-lines3.ensures the-first-line4.ensures the-later-lines4.ensures)
     _ the-if2.false the-resolve.ensures.buffer c.before.before.put-components.ensures

@@ -3,7 +3,7 @@ use Rattle.xkbrules.proofs.xkbrules_component.Statement.{statement}
 use Rattle.xkbrules.proofs.xkbrules_component.Tie as tie
 use native.Mathlib.Omega.{arith}
 use lib.ListN.{length}
-use Rattle.xkbrules.proofs.Sheet.{code_number, code_sheet, code_texts, code_wide, code-bounds, code-found}
+use Rattle.xkbrules.proofs.Sheet.{code_number, code_sheet, code_texts, code_wide, code_bounds, code_found}
 
 returns : tie.Need-returns
 returns c =
@@ -58,7 +58,7 @@ mul-result c =
     let the-if2 = c.before.before.before.before.before.before.if2 in
     let the-lengths-in = c.before.before.before.before.before.lengths-in in
     let the-sum-first = c.before.before.before.before.sum_first in
-    let b = code-bounds (length start.args.texts.now) start.args.sheet.now _ _ _ the-if1.false the-if2.false the-lengths-in.ensures the-sum-first.ensures _ _
+    let b = code_bounds (length start.args.texts.now) start.args.sheet.now _ _ _ the-if1.false the-if2.false the-lengths-in.ensures the-sum-first.ensures _ _
     c.before.sum-first2.ensures c.sum-first3.ensures c.before.before.if4.false in
     omega (arith, b.0, b.1)
 
@@ -69,7 +69,7 @@ sub-result c =
     let the-if2 = c.before.before.before.before.before.before.if2 in
     let the-lengths-in = c.before.before.before.before.before.lengths-in in
     let the-sum-first = c.before.before.before.before.sum_first in
-    let b = code-bounds (length start.args.texts.now) start.args.sheet.now _ _ _ the-if1.false the-if2.false the-lengths-in.ensures the-sum-first.ensures _ _
+    let b = code_bounds (length start.args.texts.now) start.args.sheet.now _ _ _ the-if1.false the-if2.false the-lengths-in.ensures the-sum-first.ensures _ _
     c.before.sum-first2.ensures c.sum-first3.ensures c.before.before.if4.false in
     omega (arith, b.0, b.1)
 
@@ -80,7 +80,7 @@ add-result c =
     let the-if2 = c.before.before.before.before.before.before.if2 in
     let the-lengths-in = c.before.before.before.before.before.lengths-in in
     let the-sum-first = c.before.before.before.before.sum_first in
-    let b = code-bounds (length start.args.texts.now) start.args.sheet.now _ _ _ the-if1.false the-if2.false the-lengths-in.ensures the-sum-first.ensures _ _
+    let b = code_bounds (length start.args.texts.now) start.args.sheet.now _ _ _ the-if1.false the-if2.false the-lengths-in.ensures the-sum-first.ensures _ _
     c.before.sum-first2.ensures c.sum-first3.ensures c.before.before.if4.false in
     omega (arith, b.0, b.1)
 
@@ -92,7 +92,7 @@ returns-5 c =
     let the-lengths-in = c.before.before.before.before.before.lengths-in in
     let the-sum-first = c.before.before.before.before.sum_first in
     let the-if3 = c.before.before.before.if3 in
-    code-found _ start.args.sheet.now _ _ _ the-if1.false the-if2.false the-lengths-in.ensures the-sum-first.ensures _ _ c.before.sum-first2.ensures c.sum-first3.ensures the-if3.false c.before.before.if4.false
+    code_found _ start.args.sheet.now _ _ _ the-if1.false the-if2.false the-lengths-in.ensures the-sum-first.ensures _ _ c.before.sum-first2.ensures c.sum-first3.ensures the-if3.false c.before.before.if4.false
 
 pub xkbrules-component-spec : {M : Type 1} → statement M
 xkbrules-component-spec =

@@ -3,7 +3,7 @@ use Rattle.xkbrules.proofs.xkbrules_resolve.Statement.{statement}
 use Rattle.xkbrules.proofs.xkbrules_resolve.Tie as tie
 use Rattle.profile.specs.Profile.{texts_of}
 use Rattle.resolver.proofs.Resolves.{buffer_kept}
-use Rattle.xkbrules.proofs.Ways.{packs, way_refused, way-short, way-accepted}
+use Rattle.xkbrules.proofs.Ways.{packs, way_refused, way_short, way_accepted}
 
 measure-requires : tie.Need-measure-requires
 measure-requires c κs = search rules
@@ -16,7 +16,7 @@ returns c =
     let start = c.before.before.before.before.before.before.before.before.before.before.before.before in
     let the-if1 = c.before.before.before.before.if1 in
     let the-measure = c.before.before.before.measure in
-    way-short _ _ _ _ the-measure.ensures start.args.sheet.now _ the-if1.true c.before.if2.true c.packed.ensures
+    way_short _ _ _ _ the-measure.ensures start.args.sheet.now _ the-if1.true c.before.if2.true c.packed.ensures
 
 packed-requires-2 : tie.Need-packed-requires-2
 packed-requires-2 c κs =
@@ -48,7 +48,7 @@ returns-3 c =
     let the-if1 = c.before.before.before.before.before.before.before.before.before.before.before.if1 in
     let the-resolve = c.before.before.before.before.before.before.before.before.before.resolve in
     let the-if3 = c.before.before.before.before.before.if3 in
-    way-accepted _ _ _ _ the-resolve.ensures.result start.args.sheet.now _ _ the-if1.false the-if3.true the-resolve.ensures.buffer c.before.before.put-lengths.ensures
+    way_accepted _ _ _ _ the-resolve.ensures.result start.args.sheet.now _ _ the-if1.false the-if3.true the-resolve.ensures.buffer c.before.before.put-lengths.ensures
 
 packed-requires-3 : tie.Need-packed-requires-3
 packed-requires-3 c κs =

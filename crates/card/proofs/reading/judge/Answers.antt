@@ -1,4 +1,4 @@
-use Rattle.card.proofs.Judged.{found_sectioned, judge_broken, judge-beyond, judge-good}
+use Rattle.card.proofs.Judged.{found_sectioned, judge_broken, judge_beyond, judge_good}
 use Rattle.card.proofs.reading.judge.Goals as goal
 
 pub returns-then-f : goal.returns-then-f
@@ -8,7 +8,7 @@ pub check_profile-p-requires : goal.check_profile-p-requires
 check_profile-p-requires c = found_sectioned _ _ c.find_sections-f.ensures c.if-f.false
 
 pub returns-then-p-eq0 : goal.returns-then-p-eq0
-returns-then-p-eq0 c = judge-good _ _ (found_sectioned _ _ c.find_sections-f.ensures c.if-f.false) _ c.check_profile-p.ensures c.if-p-eq0.true
+returns-then-p-eq0 c = judge_good _ _ (found_sectioned _ _ c.find_sections-f.ensures c.if-f.false) _ c.check_profile-p.ensures c.if-p-eq0.true
 
 pub returns : goal.returns
-returns c = judge-beyond _ _ (found_sectioned _ _ c.find_sections-f.ensures c.if-f.false) _ c.check_profile-p.ensures _ c.if-p-eq0.false c.refused-2.ensures
+returns c = judge_beyond _ _ (found_sectioned _ _ c.find_sections-f.ensures c.if-f.false) _ c.check_profile-p.ensures _ c.if-p-eq0.false c.refused-2.ensures

@@ -2,7 +2,7 @@ use native.Mathlib.Omega.{arith}
 use mathlib.Core.Path.{◌≡◌, refl, sym, ◌∙◌}
 use lib.ListN.{length}
 use Rattle.profile.specs.Profile.{texts_of}
-use Rattle.card.proofs.Written.{answer_profile, answer-unwritable, answer-written, no_long, no-texts, whole_sum, sum_most, sum_inside, lent-size, no_room, writable, ten_room, kept_room, put_both, way_refused, way_written}
+use Rattle.card.proofs.Written.{answer_profile, answer_unwritable, answer_written, no_long, no_texts, whole_sum, sum_most, sum_inside, lent_size, no_room, writable, ten_room, kept_room, put_both, way_refused, way_written}
 use Rattle.card.proofs.Limits.{unrefused, limited}
 use Rattle.card.proofs.writing.write.Goals as goal
 
@@ -12,11 +12,11 @@ returns-then-p-ne0 c =
 
 pub returns-then-any_long : goal.returns-then-any_long
 returns-then-any_long c =
-    way_refused _ _ _ _ _ _ (answer-unwritable _ _ _ _ (unrefused _ _ c.check-p.ensures c.if-p-ne0.false) (no_long _ _ _ _ _ c.any_long.ensures c.if-any_long.true)) c.refused-then-any_long.ensures
+    way_refused _ _ _ _ _ _ (answer_unwritable _ _ _ _ (unrefused _ _ c.check-p.ensures c.if-p-ne0.false) (no_long _ _ _ _ _ c.any_long.ensures c.if-any_long.true)) c.refused-then-any_long.ensures
 
 pub returns-then-texts-total : goal.returns-then-texts-total
 returns-then-texts-total c =
-    way_refused _ _ _ _ _ _ (answer-unwritable _ _ _ _ (unrefused _ _ c.check-p.ensures c.if-p-ne0.false) (no-texts _ _ (omega arith) c.sum_first-total.ensures _ _ _ c.if-texts-total.true)) c.refused-then-texts-total.ensures
+    way_refused _ _ _ _ _ _ (answer_unwritable _ _ _ _ (unrefused _ _ c.check-p.ensures c.if-p-ne0.false) (no_texts _ _ (omega arith) c.sum_first-total.ensures _ _ _ c.if-texts-total.true)) c.refused-then-texts-total.ensures
 
 pub card_size-size-requires : goal.card_size-size-requires
 card_size-size-requires c =
@@ -24,7 +24,7 @@ card_size-size-requires c =
 
 pub returns-then-card-size : goal.returns-then-card-size
 returns-then-card-size c =
-    way_refused _ _ _ _ _ _ (answer-unwritable _ _ _ _ (unrefused _ _ c.check-p.ensures c.if-p-ne0.false) (no_room _ _ (omega arith) c.sum_first-total.ensures _ _ _ _ c.card_size-size.ensures c.if-texts-total.false c.if-card-size.true)) c.refused-then-card-size.ensures
+    way_refused _ _ _ _ _ _ (answer_unwritable _ _ _ _ (unrefused _ _ c.check-p.ensures c.if-p-ne0.false) (no_room _ _ (omega arith) c.sum_first-total.ensures _ _ _ _ c.card_size-size.ensures c.if-texts-total.false c.if-card-size.true)) c.refused-then-card-size.ensures
 
 pub put_profile-at-requires : goal.put_profile-at-requires
 put_profile-at-requires c =
@@ -41,5 +41,5 @@ returns c =
     let t : length c.args.lengths ≡ 10 = omega arith in
     let s = c.sum_first-total.ensures in
     let z = c.card_size-size.ensures in
-    way_written _ _ _ _ _ _ _ (answer-written _ _ _ _ (unrefused _ _ c.check-p.ensures c.if-p-ne0.false) (writable _ _ t s _ _ _ _ z c.if-texts-total.false _ c.any_long.ensures c.if-any_long.false c.if-card-size.false))
-    (lent-size _ _ t s 0 _ _ _ z c.if-texts-total.false) c.if-card-size.false (put_both _ _ _ _ _ _ _ c.put_profile-at.ensures.0 c.put_profile-at.ensures.1 c.put_components.ensures) refl
+    way_written _ _ _ _ _ _ _ (answer_written _ _ _ _ (unrefused _ _ c.check-p.ensures c.if-p-ne0.false) (writable _ _ t s _ _ _ _ z c.if-texts-total.false _ c.any_long.ensures c.if-any_long.false c.if-card-size.false))
+    (lent_size _ _ t s 0 _ _ _ z c.if-texts-total.false) c.if-card-size.false (put_both _ _ _ _ _ _ _ c.put_profile-at.ensures.0 c.put_profile-at.ensures.1 c.put_components.ensures) refl

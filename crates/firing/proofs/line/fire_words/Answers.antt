@@ -3,7 +3,7 @@ use lib.ListN.{length-map}
 use native.Mathlib.Omega.{arith}
 use Rattle.text.specs.Bytes.{part}
 use Rattle.text.proofs.Readers.{found, stopped}
-use Rattle.firing.proofs.ValueFires.{words_start, word_fits, words-few, words_more, words-fired, words-none, fires_again}
+use Rattle.firing.proofs.ValueFires.{words_start, word_fits, words_few, words_more, words_fired, words_none, fires_again}
 use Rattle.firing.proofs.line.fire_words.Goals as goal
 
 pub loop-j-init : goal.loop-j-init
@@ -28,7 +28,7 @@ slice_bounds-fire_value-end c =
 
 pub bounds-components-j : goal.bounds-components-j
 bounds-components-j c =
-    words-few _ _ _ _ _ _ _ _ _ _ _ _ _ c.loop-j.invariant.0 _ _ _ _ (found _ _ _ _ _ _ _ _ c.in-Found.is c.word_at.ensures) (omega (arith, c.requires.1.all, c.requires.1.few))
+    words_few _ _ _ _ _ _ _ _ _ _ _ _ _ c.loop-j.invariant.0 _ _ _ _ (found _ _ _ _ _ _ _ _ c.in-Found.is c.word_at.ensures) (omega (arith, c.requires.1.all, c.requires.1.few))
 
 pub fire_value-m-requires : goal.fire_value-m-requires
 unfolding part
@@ -54,8 +54,8 @@ loop-j-preserved c = (
 
 pub returns-in-Stop : goal.returns-in-Stop
 returns-in-Stop c =
-    (words-none _ _ _ _ _ _ _ _ _ _ _ _ _ c.loop-j.invariant.0 _ _ (stopped _ _ _ _ _ _ c.in-Stop.is c.word_at.ensures), c.loop-j.invariant.1)
+    (words_none _ _ _ _ _ _ _ _ _ _ _ _ _ c.loop-j.invariant.0 _ _ (stopped _ _ _ _ _ _ c.in-Stop.is c.word_at.ensures), c.loop-j.invariant.1)
 
 pub returns : goal.returns
 returns c =
-    (words-fired _ _ _ _ _ _ _ _ _ _ _ _ _ c.loop-j.invariant.0 (omega (arith, c.requires.1.all, c.loop-j-test.false)), c.loop-j.invariant.1)
+    (words_fired _ _ _ _ _ _ _ _ _ _ _ _ _ c.loop-j.invariant.0 (omega (arith, c.requires.1.all, c.loop-j-test.false)), c.loop-j.invariant.1)

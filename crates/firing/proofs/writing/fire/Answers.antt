@@ -5,14 +5,14 @@ use mathlib.Core.Path.{sym, ◌∙◌}
 use Rattle.text.proofs.Lists.{no}
 use Rattle.firing.specs.Writing.{based_at}
 use Rattle.firing.proofs.Regions.{low_at}
-use Rattle.firing.proofs.Going.{fire-over, fire_nothing, fire-add, fire-skip, fire-base, region_low, moves_on, put_moved}
+use Rattle.firing.proofs.Going.{fire_over, fire_nothing, fire_add, fire_skip, fire_base, region_low, moves_on, put_moved}
 use Rattle.firing.proofs.Beginnings.{none_spread, some_spread, sign_spread}
 use Rattle.firing.proofs.writing.fire.Goals.{else-not-addition-via-then-not-addition+else-next-component, else-not-addition-via-else-not-addition}
 use Rattle.firing.proofs.writing.fire.Goals as goal
 
 pub returns-then-component-gt4 : goal.returns-then-component-gt4
 returns-then-component-gt4 c =
-    fire-over _ _ _ _ c.requires.5 c.if-component-gt4.true
+    fire_over _ _ _ _ c.requires.5 c.if-component-gt4.true
 
 pub returns-then-t-eq0 : goal.returns-then-t-eq0
 returns-then-t-eq0 c =
@@ -20,7 +20,7 @@ returns-then-t-eq0 c =
 
 pub returns-then-next-component : goal.returns-then-next-component
 returns-then-next-component c =
-    fire-skip c.args.component _ _ _ c.requires.5 (omega (arith, c.if-component-gt4.false)) (some_spread _ _ c.requires.0 c.if-t-eq0.false) (sign_spread _ _ c.requires.0 _ _ c.is_signed-addition.ensures (not-true _ c.if-not-addition.true-raw)) c.if-next-component.true
+    fire_skip c.args.component _ _ _ c.requires.5 (omega (arith, c.if-component-gt4.false)) (some_spread _ _ c.requires.0 c.if-t-eq0.false) (sign_spread _ _ c.requires.0 _ _ c.is_signed-addition.ensures (not-true _ c.if-not-addition.true-raw)) c.if-next-component.true
 
 pub offset_bounds-next-r : goal.offset_bounds-next-r
 offset_bounds-next-r c =
@@ -52,10 +52,10 @@ overflow_add-next c =
 
 pub returns-then-addition : goal.returns-then-addition
 returns-then-addition c =
-    fire-add c.args.component _ _ _ c.requires.5 (omega (arith, c.if-component-gt4.false)) (some_spread _ _ c.requires.0 c.if-t-eq0.false) _ _ c.region-r.ensures c.if-addition.true _ _ (sign_spread _ _ c.requires.0 _ _ c.is_signed-addition.ensures c.if-addition.true) (put_moved _ _ _ _ _ _ c.put_spread-p.ensures)
+    fire_add c.args.component _ _ _ c.requires.5 (omega (arith, c.if-component-gt4.false)) (some_spread _ _ c.requires.0 c.if-t-eq0.false) _ _ c.region-r.ensures c.if-addition.true _ _ (sign_spread _ _ c.requires.0 _ _ c.is_signed-addition.ensures c.if-addition.true) (put_moved _ _ _ _ _ _ c.put_spread-p.ensures)
 
 pub returns : goal.returns
 unfolding based_at
 returns c =
-    fire-base c.args.component _ _ _ c.requires.5 (omega (arith, c.if-component-gt4.false)) (some_spread _ _ c.requires.0 c.if-t-eq0.false) _ _ c.region-r.ensures c.if-addition.false _ _ (sign_spread _ _ c.requires.0 _ _ c.is_signed-addition.ensures c.if-addition.false)
+    fire_base c.args.component _ _ _ c.requires.5 (omega (arith, c.if-component-gt4.false)) (some_spread _ _ c.requires.0 c.if-t-eq0.false) _ _ c.region-r.ensures c.if-addition.false _ _ (sign_spread _ _ c.requires.0 _ _ c.is_signed-addition.ensures c.if-addition.false)
     (elim c.else-not-addition.branch [ else-not-addition-via-then-not-addition+else-next-component w ↦ w.if-next-component.false | else-not-addition-via-else-not-addition w ↦ absurd (cc (w.if-not-addition.false, c.if-addition.false)) ]) (put_moved _ _ _ _ _ _ c.put_spread-p.ensures)

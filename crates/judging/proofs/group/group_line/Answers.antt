@@ -1,4 +1,4 @@
-use Rattle.judging.proofs.GroupLines.{group_none, group-some}
+use Rattle.judging.proofs.GroupLines.{group_none, group_some}
 use Rattle.text.proofs.Readers.{found, stopped}
 use Rattle.text.specs.Bytes.{part}
 use mathlib.Core.Path.{refl, ◌∙◌}
@@ -24,7 +24,7 @@ slice_bounds-is_group-end-in-Found c =
 pub returns-in-Found : goal.returns-in-Found
 unfolding part
 returns-in-Found c =
-    let u = found _ _ _ _ _ _ _ _ c.in-Found.is c.word_at.ensures in group-some _ _ c.requires.2 _ _ _ _ _ _ _ _ _ u _ c.read_members-m.ensures _ _ c.is_group-good.ensures (c.group_fault.ensures ∙ rw (c.lower-in-Found.ensures, c.lower.ensures) refl)
+    let u = found _ _ _ _ _ _ _ _ c.in-Found.is c.word_at.ensures in group_some _ _ c.requires.2 _ _ _ _ _ _ _ _ _ u _ c.read_members-m.ensures _ _ c.is_group-good.ensures (c.group_fault.ensures ∙ rw (c.lower-in-Found.ensures, c.lower.ensures) refl)
 
 pub returns-in-Stop : goal.returns-in-Stop
 returns-in-Stop c =

@@ -2,7 +2,7 @@ use native.Mathlib.Omega.{arith}
 use Rattle.text.specs.Bytes.{part}
 use Rattle.text.proofs.Readers.{found, stopped}
 use Rattle.text.proofs.Passing.{passing_start, passing_word, passing_stop}
-use Rattle.names.proofs.Joining.{joining_start, joining-more, joining-end}
+use Rattle.names.proofs.Joining.{joining_start, joining_more, joining_end}
 use Rattle.judging.proofs.GroupLines.{judging_start, judging_more, judging_fault, judging_plain}
 use Rattle.judging.proofs.group.read_members.Goals as goal
 
@@ -33,8 +33,8 @@ loop-start-smaller c =
 pub loop-start-preserved : goal.loop-start-preserved
 unfolding part
 loop-start-preserved c =
-    let u = found _ _ _ _ _ _ _ _ c.in-Found.is c.word_at.ensures in (joining-more _ _ _ _ _ _ _ _ _ _ c.loop-start.invariant.0 _ _ _ _ _ _ u c.row_of.ensures c.either-row.ensures, passing_word _ _ _ _ _ c.loop-start.invariant.1 _ _ _ _ u, judging_more _ _ _ _ _ c.loop-start.invariant.2 _ _ _ _ _ _ _ u c.lower-f.ensures c.and_ordinary-all.ensures)
+    let u = found _ _ _ _ _ _ _ _ c.in-Found.is c.word_at.ensures in (joining_more _ _ _ _ _ _ _ _ _ _ c.loop-start.invariant.0 _ _ _ _ _ _ u c.row_of.ensures c.either-row.ensures, passing_word _ _ _ _ _ c.loop-start.invariant.1 _ _ _ _ u, judging_more _ _ _ _ _ c.loop-start.invariant.2 _ _ _ _ _ _ _ u c.lower-f.ensures c.and_ordinary-all.ensures)
 
 pub returns-in-Stop : goal.returns-in-Stop
 returns-in-Stop c =
-    let u = stopped _ _ _ _ _ _ c.in-Stop.is c.word_at.ensures in record { fault = judging_fault _ _ _ _ _ c.loop-start.invariant.2 _ _ _ u; ordinary = judging_plain _ _ _ _ _ c.loop-start.invariant.2 _ _ _ u; joined = joining-end _ _ _ _ _ _ _ _ _ _ c.loop-start.invariant.0 _ _ u; passed = passing_stop _ _ _ _ _ c.loop-start.invariant.1 _ _ u }
+    let u = stopped _ _ _ _ _ _ c.in-Stop.is c.word_at.ensures in record { fault = judging_fault _ _ _ _ _ c.loop-start.invariant.2 _ _ _ u; ordinary = judging_plain _ _ _ _ _ c.loop-start.invariant.2 _ _ _ u; joined = joining_end _ _ _ _ _ _ _ _ _ _ c.loop-start.invariant.0 _ _ u; passed = passing_stop _ _ _ _ _ c.loop-start.invariant.1 _ _ u }

@@ -1,4 +1,4 @@
-use Rattle.judging.proofs.RuleLines.{read_rest, read-words, words-refused}
+use Rattle.judging.proofs.RuleLines.{read_rest, read_words, words_refused}
 use Rattle.judging.proofs.rule.rule_line.Goals as goal
 
 pub returns-then-o : goal.returns-then-o
@@ -10,8 +10,8 @@ returns-then-e-ne0 c =
 
 pub returns-then-j-ne0 : goal.returns-then-j-ne0
 returns-then-j-ne0 c =
-    words-refused _ _ _ _ _ _ _ c.requires.1 c.open_plain-o.ensures c.if-o.false _ c.judge_words-j.ensures c.if-j-ne0.true
+    words_refused _ _ _ _ _ _ _ c.requires.1 c.open_plain-o.ensures c.if-o.false _ c.judge_words-j.ensures c.if-j-ne0.true
 
 pub returns : goal.returns
 returns c =
-    read-words _ _ _ _ _ _ _ c.requires.1 c.open_plain-o.ensures c.if-o.false _ c.judge_words-j.ensures c.if-j-ne0.false
+    read_words _ _ _ _ _ _ _ c.requires.1 c.open_plain-o.ensures c.if-o.false _ c.judge_words-j.ensures c.if-j-ne0.false

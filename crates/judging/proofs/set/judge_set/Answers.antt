@@ -1,6 +1,6 @@
 use Rattle.judging.proofs.SetLines.{set_refused, set_read}
 use Rattle.rules.proofs.Sides.{too_many}
-use Rattle.rules.proofs.LineKinds.{set_nothing, set_ends, set-again, set-shaped, set_bad, first_count}
+use Rattle.rules.proofs.LineKinds.{set_nothing, set_ends, set_again, set_shaped, set_bad, first_count}
 use Rattle.rules.specs.Splitting.{words_of}
 use borrow.Author.Tests.{not-true, not-false}
 use mathlib.Core.Path.{◌≡◌, sym, ◌∙◌}
@@ -22,16 +22,16 @@ returns-then-t-lt2 c =
 
 pub returns-then-t : goal.returns-then-t
 returns-then-t c =
-    set_refused _ 6 _ (λ (z : ◌≡◌ {A = ℕ} 6 0). omega arith) (set-again _ _ c.requires.1 c.if-t-eq0.false (omega (arith, first_count _ _ c.requires.1, c.if-t-lt2.false)) c.if-t.true) c.refused_set-then-t.ensures
+    set_refused _ 6 _ (λ (z : ◌≡◌ {A = ℕ} 6 0). omega arith) (set_again _ _ c.requires.1 c.if-t-eq0.false (omega (arith, first_count _ _ c.requires.1, c.if-t-lt2.false)) c.if-t.true) c.refused_set-then-t.ensures
 
 pub returns-then-t-gt10 : goal.returns-then-t-gt10
 returns-then-t-gt10 c =
-    set_refused _ 7 _ (λ (z : ◌≡◌ {A = ℕ} 7 0). omega arith) (set_bad _ (set-shaped _ _ c.requires.1 c.if-t-eq0.false (omega (arith, first_count _ _ c.requires.1, c.if-t-lt2.false)) c.if-t.false) (too_many (words_of c.args.w.now) (omega (arith, c.requires.1.count, c.if-t-gt10.true)))) c.refused_set-then-t-gt10.ensures
+    set_refused _ 7 _ (λ (z : ◌≡◌ {A = ℕ} 7 0). omega arith) (set_bad _ (set_shaped _ _ c.requires.1 c.if-t-eq0.false (omega (arith, first_count _ _ c.requires.1, c.if-t-lt2.false)) c.if-t.false) (too_many (words_of c.args.w.now) (omega (arith, c.requires.1.count, c.if-t-gt10.true)))) c.refused_set-then-t-gt10.ensures
 
 pub returns-then-not-set : goal.returns-then-not-set
 returns-then-not-set c =
-    set_refused _ 7 _ (λ (z : ◌≡◌ {A = ℕ} 7 0). omega arith) (set_bad _ (set-shaped _ _ c.requires.1 c.if-t-eq0.false (omega (arith, first_count _ _ c.requires.1, c.if-t-lt2.false)) c.if-t.false) (sym c.read_set-set.ensures.good ∙ not-true _ c.if-not-set.true)) c.refused_set-then-not-set.ensures
+    set_refused _ 7 _ (λ (z : ◌≡◌ {A = ℕ} 7 0). omega arith) (set_bad _ (set_shaped _ _ c.requires.1 c.if-t-eq0.false (omega (arith, first_count _ _ c.requires.1, c.if-t-lt2.false)) c.if-t.false) (sym c.read_set-set.ensures.good ∙ not-true _ c.if-not-set.true)) c.refused_set-then-not-set.ensures
 
 pub returns : goal.returns
 returns c =
-    set_read _ (set-shaped _ _ c.requires.1 c.if-t-eq0.false (omega (arith, first_count _ _ c.requires.1, c.if-t-lt2.false)) c.if-t.false) _ c.read_set-set.ensures (not-false _ c.if-not-set.false)
+    set_read _ (set_shaped _ _ c.requires.1 c.if-t-eq0.false (omega (arith, first_count _ _ c.requires.1, c.if-t-lt2.false)) c.if-t.false) _ c.read_set-set.ensures (not-false _ c.if-not-set.false)

@@ -1,7 +1,7 @@
 use native.Mathlib.Omega.{arith}
 use Rattle.profile.proofs.Counts.{few_options}
 use Rattle.names.proofs.Placing.{short_texts}
-use Rattle.names.proofs.Asked.{room_left, options_lie, star_lies, all_placed, compiled-profile}
+use Rattle.names.proofs.Asked.{room_left, options_lie, star_lies, all_placed, compiled_profile}
 use Rattle.names.proofs.compile.compile.Goals as goal
 
 pub overflow_add-base : goal.overflow_add-base
@@ -34,4 +34,4 @@ shape_of-text c =
 
 pub returns : goal.returns
 returns c =
-    let p = c.requires in compiled-profile _ p.0 _ _ _ c.copy_texts-used.ensures _ c.place_values.ensures p.1 _ _ _ _ c.mark_profile-count.ensures.0 c.mark_profile-count.ensures.1
+    let p = c.requires in compiled_profile _ p.0 _ _ _ c.copy_texts-used.ensures _ c.place_values.ensures p.1 _ _ _ _ c.mark_profile-count.ensures.0 c.mark_profile-count.ensures.1

@@ -1,5 +1,5 @@
 use native.Mathlib.Omega.{arith}
-use Rattle.names.proofs.Asked.{options_start, options-more, options-done}
+use Rattle.names.proofs.Asked.{options_start, options_more, options_done}
 use Rattle.names.proofs.compile.mark_options.Goals as goal
 
 pub loop-start-init : goal.loop-start-init
@@ -27,7 +27,7 @@ loop-start-smaller c =
 
 pub loop-start-preserved : goal.loop-start-preserved
 loop-start-preserved c =
-    (omega (arith, c.field_end-e.ensures.high), options-more _ _ _ _ _ _ _ _ _ _ _ c.loop-start.invariant.1 _ _ c.requires.0 c.field_end-e.ensures _ _ _ _ c.mark_value-n.ensures)
+    (omega (arith, c.field_end-e.ensures.high), options_more _ _ _ _ _ _ _ _ _ _ _ c.loop-start.invariant.1 _ _ c.requires.0 c.field_end-e.ensures _ _ _ _ c.mark_value-n.ensures)
 
 pub returns : goal.returns
-returns c = options-done _ _ _ _ _ _ _ _ _ _ _ c.loop-start.invariant.1 c.loop-start-test.false
+returns c = options_done _ _ _ _ _ _ _ _ _ _ _ c.loop-start.invariant.1 c.loop-start-test.false

@@ -1,5 +1,5 @@
 use native.Mathlib.Omega.{arith}
-use Rattle.names.proofs.Defining.{named_whole, fresh_whole, defines_full, defines-twice, defines-more}
+use Rattle.names.proofs.Defining.{named_whole, fresh_whole, defines_full, defines_twice, defines_more}
 use Rattle.names.proofs.define.define_group.Goals as goal
 
 -- src/define.rt:36:9
@@ -15,7 +15,7 @@ has_name-requires c =
 -- src/define.rt:42:9
 pub returns-then-has_name : goal.returns-then-has_name
 returns-then-has_name c =
-    defines-twice _ c.requires.2 _ _ _ _ _ _ _ _ _ c.has_name.ensures c.if-has_name.true
+    defines_twice _ c.requires.2 _ _ _ _ _ _ _ _ _ c.has_name.ensures c.if-has_name.true
 
 -- src/define.rt:47:9
 pub add_name-n-requires : goal.add_name-n-requires
@@ -27,4 +27,4 @@ add_name-n-requires c =
 -- src/define.rt:16:1
 pub returns : goal.returns
 returns c =
-    defines-more _ c.requires.2 _ _ _ _ _ _ _ _ _ c.has_name.ensures c.if-has_name.false c.if-groups-ge64.false c.requires.3 _ _ _ _ _ c.add_name-n.ensures
+    defines_more _ c.requires.2 _ _ _ _ _ _ _ _ _ c.has_name.ensures c.if-has_name.false c.if-groups-ge64.false c.requires.3 _ _ _ _ _ c.add_name-n.ensures

@@ -2,7 +2,7 @@
 use borrow.Author.Rules.{rules}
 use native.Mathlib.Omega.{arith}
 use Rattle.text.proofs.Entries.{entries, table_right}
-use Rattle.reading.proofs.FileReads.{reads_first, reads_more, reads-less, reads_end, reads_done}
+use Rattle.reading.proofs.FileReads.{reads_first, reads_more, reads_less, reads_end, reads_done}
 use Rattle.reading.proofs.file.read_file.Goals as goal
 
 -- src/file.rt:212:5
@@ -19,7 +19,7 @@ read_on-r-requires c =
 -- src/file.rt:212:5
 pub loop-r-smaller : goal.loop-r-smaller
 loop-r-smaller c =
-    reads-less _ _ _ _ _ _ _ _ _ _ _ _ _ _ _ _ _ c.loop-r.invariant.0 c.loop-r-test.true _ _ _ _ _ _ _ c.read_on-r.ensures
+    reads_less _ _ _ _ _ _ _ _ _ _ _ _ _ _ _ _ _ c.loop-r.invariant.0 c.loop-r-test.true _ _ _ _ _ _ _ c.read_on-r.ensures
 
 -- src/file.rt:212:5
 pub loop-r-preserved : goal.loop-r-preserved

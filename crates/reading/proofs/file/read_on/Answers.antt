@@ -2,7 +2,7 @@
 use native.Mathlib.Omega.{arith}
 use mathlib.Core.Path.{refl}
 use Rattle.names.proofs.Defining.{named_whole}
-use Rattle.reading.proofs.Stepping.{kept-places, step-keep, step-fire, step_refused, step_end, heading-sound, step-heading}
+use Rattle.reading.proofs.Stepping.{kept_places, step_keep, step_fire, step_refused, step_end, heading_sound, step_heading}
 use Rattle.reading.proofs.Parts.{sought_as, fired_as, fires_as, places_as, sized_as, heading_at, held_at, read_as}
 use Rattle.reading.proofs.file.read_on.Goals as goal
 
@@ -22,7 +22,7 @@ pub fire_kept-q-requires : goal.fire_kept-q-requires
 fire_kept-q-requires c = (
       c.requires.0,
       sized_as _ _ c.wanting-o.ensures c.requires.3.set.sized,
-      places_as _ _ _ _ c.wanting-o.ensures (kept-places _ _ _ _ _ _ _ _ _ _ c.requires.3 _ _ _ _ (sought_as c.args.r.used c.args.text.now _ _ _ _ _ _ _ _ _ _ c.in-Rule.is c.seek_rule-x.ensures) _ c.keep_rule-kept.ensures _
+      places_as _ _ _ _ c.wanting-o.ensures (kept_places _ _ _ _ _ _ _ _ _ _ c.requires.3 _ _ _ _ (sought_as c.args.r.used c.args.text.now _ _ _ _ _ _ _ _ _ _ c.in-Rule.is c.seek_rule-x.ensures) _ c.keep_rule-kept.ensures _
           c.without-wanted.ensures),
       fires_as c.args.r.used c.args.text.now _ _ _ _ _ _ c.requires.3.fires,
     )
@@ -32,7 +32,7 @@ pub returns-then-set : goal.returns-then-set
 returns-then-set c =
     let f = fired_as c.args.r.used c.args.text.now _ _ _ _ _ _ _ _ _ _ c.wanting-o.ensures c.fire_kept-q.ensures.0 in
     rw c.go_on.ensures
-    (step-fire _ _ _ _ _ _ _ _ _ _ c.requires.3 _ _ _ _ (sought_as c.args.r.used c.args.text.now _ _ _ _ _ _ _ _ _ _ c.in-Rule.is c.seek_rule-x.ensures) _ c.keep_rule-kept.ensures _ c.without-wanted.ensures c.if-set.true _ _ _ c.fire_kept-q.ensures.1 f)
+    (step_fire _ _ _ _ _ _ _ _ _ _ c.requires.3 _ _ _ _ (sought_as c.args.r.used c.args.text.now _ _ _ _ _ _ _ _ _ _ c.in-Rule.is c.seek_rule-x.ensures) _ c.keep_rule-kept.ensures _ c.without-wanted.ensures c.if-set.true _ _ _ c.fire_kept-q.ensures.1 f)
 
 -- src/file.rt:80:17
 pub fire_kept-q-requires-in-Heading : goal.fire_kept-q-requires-in-Heading
@@ -60,7 +60,7 @@ fire_kept-q-requires-in-End c =
 pub returns-else-set : goal.returns-else-set
 returns-else-set c =
     rw (c.go_on-in-Rule.ensures, c.wanting-o.ensures)
-    (step-keep _ _ _ _ _ _ _ _ _ _ c.requires.3 _ _ _ _ (sought_as c.args.r.used c.args.text.now _ _ _ _ _ _ _ _ _ _ c.in-Rule.is c.seek_rule-x.ensures) _ c.keep_rule-kept.ensures _ c.without-wanted.ensures c.if-set.false)
+    (step_keep _ _ _ _ _ _ _ _ _ _ c.requires.3 _ _ _ _ (sought_as c.args.r.used c.args.text.now _ _ _ _ _ _ _ _ _ _ c.in-Rule.is c.seek_rule-x.ensures) _ c.keep_rule-kept.ensures _ c.without-wanted.ensures c.if-set.false)
 
 -- src/file.rt:23:1
 pub returns-in-Heading : goal.returns-in-Heading
@@ -68,9 +68,9 @@ returns-in-Heading c =
     let g = sought_as c.args.r.used c.args.text.now _ _ _ _ _ _ _ _ _ _ c.in-Heading.is c.seek_rule-x.ensures in
     let f = fired_as c.args.r.used c.args.text.now _ _ _ _ _ _ _ _ _ _ refl c.fire_kept-q-in-Heading.ensures.0 in
     let l = c.fire_kept-q-in-Heading.ensures.1 in
-    let u = heading-sound _ _ _ _ _ _ _ _ _ _ c.requires.3 _ _ _ _ g _ _ _ l f in
+    let u = heading_sound _ _ _ _ _ _ _ _ _ _ c.requires.3 _ _ _ _ g _ _ _ l f in
     let a = read_as _ _ _ _ _ _ _ _ _ _ _ _ _ c.close.ensures c.read_heading.ensures in
-    step-heading _ _ _ _ _ _ _ _ _ _ c.requires.3 _ _ _ _ g _ _ _ l f _ _ _ _ _ (a.steps _ _ _ u)
+    step_heading _ _ _ _ _ _ _ _ _ _ c.requires.3 _ _ _ _ g _ _ _ l f _ _ _ _ _ (a.steps _ _ _ u)
 
 -- src/file.rt:23:1
 pub returns-in-Refused : goal.returns-in-Refused

@@ -2,7 +2,7 @@
 use native.Mathlib.Omega.{arith}
 use Rattle.text.specs.Bytes.{part}
 use Rattle.names.proofs.Defining.{named_whole}
-use Rattle.reading.proofs.GroupHeads.{name_short, group_refused, group-full, group-twice, group-more}
+use Rattle.reading.proofs.GroupHeads.{name_short, group_refused, group_full, group_twice, group_more}
 use Rattle.reading.proofs.heading.read_group.Goals as goal
 
 -- src/heading.rt:97:9
@@ -18,7 +18,7 @@ returns-then-g-ne0 c =
 -- src/heading.rt:112:9
 pub returns-then-r-ge64 : goal.returns-then-r-ge64
 returns-then-r-ge64 c =
-    rw c.stop-then-r-ge64.ensures (group-full _ _ _ _ c.requires.3 c.requires.2 _ _ _ _ _ c.group_line-g.ensures c.if-g-ne0.false c.if-r-ge64.true)
+    rw c.stop-then-r-ge64.ensures (group_full _ _ _ _ c.requires.3 c.requires.2 _ _ _ _ _ c.group_line-g.ensures c.if-g-ne0.false c.if-r-ge64.true)
 
 -- src/heading.rt:118:9
 pub slice_bounds-define_group-count : goal.slice_bounds-define_group-count
@@ -41,7 +41,7 @@ define_group-d-requires c =
 pub returns-then-d : goal.returns-then-d
 unfolding part
 returns-then-d c =
-    rw c.stop-then-d.ensures (group-twice _ _ _ _ c.requires.3 c.requires.2 _ _ _ _ _ c.group_line-g.ensures c.if-g-ne0.false _ _ _ _ _ c.define_group-d.ensures c.if-d.true)
+    rw c.stop-then-d.ensures (group_twice _ _ _ _ c.requires.3 c.requires.2 _ _ _ _ _ c.group_line-g.ensures c.if-g-ne0.false _ _ _ _ _ c.define_group-d.ensures c.if-d.true)
 
 -- src/heading.rt:131:5
 pub grouped-requires : goal.grouped-requires
@@ -52,4 +52,4 @@ grouped-requires c =
 pub returns : goal.returns
 unfolding part
 returns c =
-    rw c.grouped.ensures (group-more _ _ _ _ c.requires.3 c.requires.2 _ _ _ _ _ c.group_line-g.ensures c.if-g-ne0.false _ _ _ _ _ c.define_group-d.ensures c.if-d.false)
+    rw c.grouped.ensures (group_more _ _ _ _ c.requires.3 c.requires.2 _ _ _ _ _ c.group_line-g.ensures c.if-g-ne0.false _ _ _ _ _ c.define_group-d.ensures c.if-d.false)

@@ -1,5 +1,5 @@
 -- `reading::heading::read_set`: refused, or the set is opened.
-use Rattle.reading.proofs.SetHeads.{set_refused, set-opened}
+use Rattle.reading.proofs.SetHeads.{set_refused, set_opened}
 use Rattle.reading.proofs.heading.read_set.Goals as goal
 
 -- src/heading.rt:39:9
@@ -14,4 +14,4 @@ open_set-o-requires c =
 
 -- src/heading.rt:25:1
 pub returns : goal.returns
-returns c = rw c.go_on.ensures (set-opened _ _ _ _ _ c.requires.1 _ c.set_line-l.ensures c.if-l-ne0.false _ c.open_set-o.ensures)
+returns c = rw c.go_on.ensures (set_opened _ _ _ _ _ c.requires.1 _ c.set_line-l.ensures c.if-l-ne0.false _ c.open_set-o.ensures)

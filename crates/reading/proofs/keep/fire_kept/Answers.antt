@@ -2,7 +2,7 @@
 use borrow.Author.Rules.{rules}
 use native.Mathlib.Omega.{arith}
 use mathlib.Core.Path.{refl, sym, ◌∙◌}
-use Rattle.reading.proofs.Keeps.{kept_start, kept-skip, kept_more, kept-end, place_words, fires_on}
+use Rattle.reading.proofs.Keeps.{kept_start, kept_skip, kept_more, kept_end, place_words, fires_on}
 use Rattle.reading.proofs.keep.fire_kept.Goals as goal
 
 -- src/keep.rt:59:5
@@ -11,7 +11,7 @@ loop-k-init c = (kept_start _ _ _ _ _ _ c.requires.3.low, refl)
 
 -- src/keep.rt:59:5
 pub loop-k-preserved-then-contains : goal.loop-k-preserved-then-contains
-loop-k-preserved-then-contains c = (kept-skip _ _ _ _ _ _ _ _ _ c.loop-k.invariant.0 c.loop-k-test.true (sym c.contains.ensures ∙ c.if-contains.true), c.loop-k.invariant.1)
+loop-k-preserved-then-contains c = (kept_skip _ _ _ _ _ _ _ _ _ c.loop-k.invariant.0 c.loop-k-test.true (sym c.contains.ensures ∙ c.if-contains.true), c.loop-k.invariant.1)
 
 -- src/keep.rt:70:9
 pub fire_line-m-requires : goal.fire_line-m-requires
@@ -42,4 +42,4 @@ shape_of-buf c = search (rules, (c.loop-k.invariant.0.going (λ k. k)).long)
 
 -- src/keep.rt:36:1
 pub returns : goal.returns
-returns c = (kept-end _ _ _ _ _ _ _ _ _ c.loop-k.invariant.0 c.loop-k-test.false, c.loop-k.invariant.1)
+returns c = (kept_end _ _ _ _ _ _ _ _ _ c.loop-k.invariant.0 c.loop-k-test.false, c.loop-k.invariant.1)

@@ -1,6 +1,6 @@
 -- `reading::opening::open_set`: a set that does not apply, or one at its layouts.
 use native.Mathlib.Omega.{arith}
-use Rattle.reading.proofs.Opens.{opened_closed, range-room, opened-set}
+use Rattle.reading.proofs.Opens.{opened_closed, range_room, opened_set}
 use Rattle.reading.proofs.opening.open_set.Goals as goal
 
 -- src/opening.rt:39:9
@@ -11,9 +11,9 @@ returns-then-count-eq0 c =
 -- src/opening.rt:47:17
 pub span-requires : goal.span-requires
 span-requires c =
-    range-room _ _ c.requires.0 c.requires.1 c.requires.2 c.requires.3 _ c.layout_range-range.ensures (omega (arith, c.if-count-eq0.false))
+    range_room _ _ c.requires.0 c.requires.1 c.requires.2 c.requires.3 _ c.layout_range-range.ensures (omega (arith, c.if-count-eq0.false))
 
 -- src/opening.rt:30:1
 pub returns : goal.returns
 returns c =
-    opened-set _ _ c.requires.0 c.requires.1 c.requires.2 c.requires.3 _ c.layout_range-range.ensures (omega (arith, c.if-count-eq0.false)) _ _ _ c.present_by-present.ensures c.has_options.ensures c.span.ensures
+    opened_set _ _ c.requires.0 c.requires.1 c.requires.2 c.requires.3 _ c.layout_range-range.ensures (omega (arith, c.if-count-eq0.false)) _ _ _ c.present_by-present.ensures c.has_options.ensures c.span.ensures

@@ -4,7 +4,7 @@ use mathlib.Core.Bool.{◌||◌}
 use borrow.Author.Tests.{not-true}
 use Rattle.rules.specs.Words.{ordinary}
 use Rattle.rules.specs.Percent.{malformed}
-use Rattle.rules.proofs.WordLoops.{right_start, right-odd, right_more, right-bad, right-fine}
+use Rattle.rules.proofs.WordLoops.{right_start, right_odd, right_more, right_bad, right_fine}
 use Rattle.rules.proofs.judge.right_fault.Goals as goal
 
 pub loop-j-init : goal.loop-j-init
@@ -16,14 +16,14 @@ word-x-requires c =
 
 pub returns-then-not-is_ordinary : goal.returns-then-not-is_ordinary
 returns-then-not-is_ordinary c =
-    right-odd _ _ _ _ _ c.loop-j.invariant (omega arith) (ap ordinary (sym c.word-x.ensures) ∙ (sym c.is_ordinary.ensures ∙ not-true _ c.if-not-is_ordinary.true-raw))
+    right_odd _ _ _ _ _ c.loop-j.invariant (omega arith) (ap ordinary (sym c.word-x.ensures) ∙ (sym c.is_ordinary.ensures ∙ not-true _ c.if-not-is_ordinary.true-raw))
 
 pub loop-j-preserved : goal.loop-j-preserved
 loop-j-preserved c =
     right_more _ _ _ _ _ c.loop-j.invariant _ (omega arith) (ap ordinary (sym c.word-x.ensures) ∙ (sym c.is_ordinary.ensures ∙ c.if-not-is_ordinary.false)) (c.or_malformed-bad.ensures ∙ ap (λ x. c.loop-j.bad || malformed c.args.indexed x) c.word-x.ensures)
 
 pub returns-then-bad : goal.returns-then-bad
-returns-then-bad c = right-bad _ _ _ _ _ c.loop-j.invariant (omega arith) c.if-bad.true
+returns-then-bad c = right_bad _ _ _ _ _ c.loop-j.invariant (omega arith) c.if-bad.true
 
 pub returns : goal.returns
-returns c = right-fine _ _ _ _ _ c.loop-j.invariant (omega arith) c.if-bad.false
+returns c = right_fine _ _ _ _ _ c.loop-j.invariant (omega arith) c.if-bad.false

@@ -1,4 +1,4 @@
-use Rattle.rules.proofs.Pieces.{which_alone, which-low, which-high, which-numbered, which-unnumbered, which-strange, which-open, which-matched}
+use Rattle.rules.proofs.Pieces.{which_alone, which_low, which_high, which_numbered, which_unnumbered, which_strange, which_open, which_matched}
 use Rattle.rules.proofs.percent.which_of.Goals as goal
 
 pub returns-then-byte_at-ne91 : goal.returns-then-byte_at-ne91
@@ -6,28 +6,28 @@ returns-then-byte_at-ne91 c = which_alone _ _ c.tail-t.ensures _ c.byte_at.ensur
 
 pub returns-then-byte_at-ne105 : goal.returns-then-byte_at-ne105
 returns-then-byte_at-ne105 c =
-    which-strange _ _ c.tail-t.ensures _ c.byte_at.ensures c.if-byte_at-ne91.false _ c.byte_at-b.ensures _ c.byte_at-in-37.ensures c.in-37.is c.if-byte_at-ne105.true
+    which_strange _ _ c.tail-t.ensures _ c.byte_at.ensures c.if-byte_at-ne91.false _ c.byte_at-b.ensures _ c.byte_at-in-37.ensures c.in-37.is c.if-byte_at-ne105.true
 
 pub returns-then-byte_at-ne93 : goal.returns-then-byte_at-ne93
 returns-then-byte_at-ne93 c =
-    which-open _ _ c.tail-t.ensures _ c.byte_at.ensures c.if-byte_at-ne91.false _ c.byte_at-b.ensures _ c.byte_at-in-37.ensures c.in-37.is c.if-byte_at-ne105.false _ c.byte_at-in-37-2.ensures c.if-byte_at-ne93.true
+    which_open _ _ c.tail-t.ensures _ c.byte_at.ensures c.if-byte_at-ne91.false _ c.byte_at-b.ensures _ c.byte_at-in-37.ensures c.in-37.is c.if-byte_at-ne105.false _ c.byte_at-in-37-2.ensures c.if-byte_at-ne93.true
 
 pub returns-then-byte_at-ne93-2 : goal.returns-then-byte_at-ne93-2
 returns-then-byte_at-ne93-2 c =
-    which-unnumbered _ _ c.tail-t.ensures _ c.byte_at.ensures c.if-byte_at-ne91.false _ c.byte_at-b.ensures _ c.byte_at-in-49-to-52.ensures c.in-49-to-52.if-b-lt49-own.false c.in-49-to-52.if-b-lt53-own.true c.if-byte_at-ne93-2.true
+    which_unnumbered _ _ c.tail-t.ensures _ c.byte_at.ensures c.if-byte_at-ne91.false _ c.byte_at-b.ensures _ c.byte_at-in-49-to-52.ensures c.in-49-to-52.if-b-lt49-own.false c.in-49-to-52.if-b-lt53-own.true c.if-byte_at-ne93-2.true
 
 pub returns-else-byte_at-ne93 : goal.returns-else-byte_at-ne93
 returns-else-byte_at-ne93 c =
-    which-matched _ _ c.tail-t.ensures _ c.byte_at.ensures c.if-byte_at-ne91.false _ c.byte_at-b.ensures _ c.byte_at-in-37.ensures c.in-37.is c.if-byte_at-ne105.false _ c.byte_at-in-37-2.ensures c.if-byte_at-ne93.false
+    which_matched _ _ c.tail-t.ensures _ c.byte_at.ensures c.if-byte_at-ne91.false _ c.byte_at-b.ensures _ c.byte_at-in-37.ensures c.in-37.is c.if-byte_at-ne105.false _ c.byte_at-in-37-2.ensures c.if-byte_at-ne93.false
 
 pub returns-else-byte_at-ne93-2 : goal.returns-else-byte_at-ne93-2
 returns-else-byte_at-ne93-2 c =
-    which-numbered _ _ c.tail-t.ensures _ c.byte_at.ensures c.if-byte_at-ne91.false _ c.byte_at-b.ensures _ c.byte_at-in-49-to-52.ensures c.in-49-to-52.if-b-lt49-own.false c.in-49-to-52.if-b-lt53-own.true c.if-byte_at-ne93-2.false _ c.wide.ensures
+    which_numbered _ _ c.tail-t.ensures _ c.byte_at.ensures c.if-byte_at-ne91.false _ c.byte_at-b.ensures _ c.byte_at-in-49-to-52.ensures c.in-49-to-52.if-b-lt49-own.false c.in-49-to-52.if-b-lt53-own.true c.if-byte_at-ne93-2.false _ c.wide.ensures
 
 pub returns-in_default : goal.returns-in_default
 returns-in_default c =
-    which-low _ _ c.tail-t.ensures _ c.byte_at.ensures c.if-byte_at-ne91.false _ c.byte_at-b.ensures c.in_default.in_default-own.rest.1 c.in_default.if-b-lt49-own.true
+    which_low _ _ c.tail-t.ensures _ c.byte_at.ensures c.if-byte_at-ne91.false _ c.byte_at-b.ensures c.in_default.in_default-own.rest.1 c.in_default.if-b-lt49-own.true
 
 pub returns-in_default-2 : goal.returns-in_default-2
 returns-in_default-2 c =
-    which-high _ _ c.tail-t.ensures _ c.byte_at.ensures c.if-byte_at-ne91.false _ c.byte_at-b.ensures c.in_default.in_default-own.rest.1 c.in_default.if-b-lt53-own.false
+    which_high _ _ c.tail-t.ensures _ c.byte_at.ensures c.if-byte_at-ne91.false _ c.byte_at-b.ensures c.in_default.in_default-own.rest.1 c.in_default.if-b-lt53-own.false

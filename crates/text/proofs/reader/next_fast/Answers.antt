@@ -2,7 +2,7 @@ use native.Mathlib.Omega.{arith}
 use mathlib.Core.Path.{sym, ◌∙◌}
 use Rattle.text.proofs.ByteKinds.{kind_zero}
 use Rattle.text.proofs.Feeds.{feed_at, join_at}
-use Rattle.text.proofs.Readers.{between_none, between_skip, between-feed, between_over, between-joined, between-word, plain_word, fence_in, fence_plain, fence_joined}
+use Rattle.text.proofs.Readers.{between_none, between_skip, between_feed, between_over, between_joined, between_word, plain_word, fence_in, fence_plain, fence_joined}
 use Rattle.text.proofs.reader.next_fast.Goals as goal
 
 pub returns-then-fence-from : goal.returns-then-fence-from
@@ -31,7 +31,7 @@ overflow_add-result-then-b-eq10 c =
 
 pub returns-then-b-eq10 : goal.returns-then-b-eq10
 returns-then-b-eq10 c =
-    between-feed _ _ _ _ _ c.loop-fence.invariant.between (fence_in _ _ _ c.requires.fenced c.loop-fence.invariant.inside) c.if-b-eq10.true
+    between_feed _ _ _ _ _ c.loop-fence.invariant.between (fence_in _ _ _ c.requires.fenced c.loop-fence.invariant.inside) c.if-b-eq10.true
 
 pub kind-requires : goal.kind-requires
 kind-requires c =
@@ -66,7 +66,7 @@ returns-then-kind-eq0 c =
     let z = sym c.kind.ensures ∙ c.if-kind-eq0.true in
     let i = fence_in _ _ _ c.requires.fenced c.loop-fence.invariant.inside in
     let p = fence_in _ _ _ c.requires.fenced c.plain_end-p.ensures.1 in
-    between-word _ _ _ _ _ c.loop-fence.invariant.between i _ _ (kind_zero _ _ _ z).0
+    between_word _ _ _ _ _ c.loop-fence.invariant.between i _ _ (kind_zero _ _ _ z).0
     (plain_word _ _ _ i (kind_zero _ 0 0 z).1 c.plain_end-p.ensures.0 p (sym c.ends_plain.ensures ∙ c.if-not-ends_plain.false) c.if-i-p.false)
 
 pub feed_end-e-requires : goal.feed_end-e-requires
@@ -104,4 +104,4 @@ pub loop-fence-preserved : goal.loop-fence-preserved
 loop-fence-preserved c =
     let j = join_at _ _ _ c.join_end-j.ensures c.if-j-eq0.false in
     let i = fence_in _ _ _ c.requires.fenced c.loop-fence.invariant.inside in
-    record { between = between-joined _ _ _ _ _ c.loop-fence.invariant.between i _ _ j c.skip_fast-i-in-loop-fence.ensures.0.blanks; inside = c.skip_fast-i-in-loop-fence.ensures.1 }
+    record { between = between_joined _ _ _ _ _ c.loop-fence.invariant.between i _ _ j c.skip_fast-i-in-loop-fence.ensures.0.blanks; inside = c.skip_fast-i-in-loop-fence.ensures.1 }

@@ -1,6 +1,6 @@
 use native.Mathlib.Omega.{arith}
 use Rattle.text.proofs.Feeds.{feed_at, join_at}
-use Rattle.text.proofs.Readers.{between_skip, between_over, between-joined, between-note, between-word, between_end, begins_at, pair_yes, pair_no}
+use Rattle.text.proofs.Readers.{between_skip, between_over, between_joined, between_note, between_word, between_end, begins_at, pair_yes, pair_no}
 use Rattle.text.proofs.reader.next_slow.Goals as goal
 
 pub skip-i-requires : goal.skip-i-requires
@@ -39,7 +39,7 @@ overflow_add-result-then-is_pair c =
 pub returns-then-is_pair : goal.returns-then-is_pair
 returns-then-is_pair c =
     let w = pair_yes _ _ _ _ _ c.is_pair.ensures c.if-is_pair.true in
-    between-note _ _ _ _ _ c.loop-i.invariant.between c.loop-i-test.true _ w.0 w.1 c.comment_end.ensures
+    between_note _ _ _ _ _ c.loop-i.invariant.between c.loop-i-test.true _ w.0 w.1 c.comment_end.ensures
 
 pub join_end-j-requires : goal.join_end-j-requires
 join_end-j-requires c =
@@ -51,7 +51,7 @@ odd_word-w-requires c =
 
 pub returns-then-j-eq0 : goal.returns-then-j-eq0
 returns-then-j-eq0 c =
-    between-word _ _ _ _ _ c.loop-i.invariant.between c.loop-i-test.true _ _ (begins_at _ _ _ _ (c.loop-i.invariant.stop c.loop-i-test.true) c.feed_end-e.ensures c.if-e-ne0.false c.join_end-j.ensures c.if-j-eq0.true (pair_no _ _ _ _ _ c.is_pair.ensures c.if-is_pair.false)) c.odd_word-w.ensures
+    between_word _ _ _ _ _ c.loop-i.invariant.between c.loop-i-test.true _ _ (begins_at _ _ _ _ (c.loop-i.invariant.stop c.loop-i-test.true) c.feed_end-e.ensures c.if-e-ne0.false c.join_end-j.ensures c.if-j-eq0.true (pair_no _ _ _ _ _ c.is_pair.ensures c.if-is_pair.false)) c.odd_word-w.ensures
 
 pub overflow_add-l : goal.overflow_add-l
 overflow_add-l c =
@@ -66,7 +66,7 @@ loop-i-smaller c = omega (arith, (join_at _ _ _ c.join_end-j.ensures c.if-j-eq0.
 
 pub loop-i-preserved : goal.loop-i-preserved
 loop-i-preserved c =
-    record { between = between-joined _ _ _ _ _ c.loop-i.invariant.between c.loop-i-test.true _ _ (join_at _ _ _ c.join_end-j.ensures c.if-j-eq0.false) c.skip-i-in-loop-i.ensures.blanks; stop = c.skip-i-in-loop-i.ensures.stop }
+    record { between = between_joined _ _ _ _ _ c.loop-i.invariant.between c.loop-i-test.true _ _ (join_at _ _ _ c.join_end-j.ensures c.if-j-eq0.false) c.skip-i-in-loop-i.ensures.blanks; stop = c.skip-i-in-loop-i.ensures.stop }
 
 pub returns : goal.returns
 returns c = between_end _ _ _ _ _ c.loop-i.invariant.between c.loop-i-test.false

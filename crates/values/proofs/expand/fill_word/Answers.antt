@@ -1,6 +1,6 @@
 use native.Mathlib.Omega.{arith}
-use Rattle.values.proofs.Filling.{going_start, going-byte, going-item, going_end, item_high}
-use Rattle.values.proofs.Places.{short-placed}
+use Rattle.values.proofs.Filling.{going_start, going_byte, going_item, going_end, item_high}
+use Rattle.values.proofs.Places.{short_placed}
 use Rattle.values.proofs.expand.fill_word.Goals as goal
 
 pub loop-i-init : goal.loop-i-init
@@ -9,7 +9,7 @@ loop-i-init c =
 
 pub loop-i-preserved-then-b-ne37 : goal.loop-i-preserved-then-b-ne37
 loop-i-preserved-then-b-ne37 c =
-    going-byte _ _ _ _ _ _ _ c.loop-i.invariant c.loop-i-test.true _ _ c.if-b-ne37.true c.put_byte-o.ensures
+    going_byte _ _ _ _ _ _ _ c.loop-i.invariant c.loop-i-test.true _ _ c.if-b-ne37.true c.put_byte-o.ensures
 
 pub put_piece-o-requires : goal.put_piece-o-requires
 put_piece-o-requires c =
@@ -21,11 +21,11 @@ overflow_add-i-in-loop-i c =
 
 pub loop-i-preserved : goal.loop-i-preserved
 loop-i-preserved c =
-    going-item _ _ _ _ _ _ _ c.loop-i.invariant c.loop-i-test.true _ _ c.if-b-ne37.false _ c.piece_after-p.ensures c.put_piece-o.ensures _ c.piece_length-i.ensures
+    going_item _ _ _ _ _ _ _ c.loop-i.invariant c.loop-i-test.true _ _ c.if-b-ne37.false _ c.piece_after-p.ensures c.put_piece-o.ensures _ c.piece_length-i.ensures
 
 pub shape_of-scratch : goal.shape_of-scratch
 shape_of-scratch c = c.loop-i.invariant.left.long
 
 pub returns : goal.returns
 returns c =
-    going_end _ (short-placed _ _ c.requires.0.placed _) _ _ _ _ _ _ _ c.loop-i.invariant c.loop-i-test.false c.requires.1 c.requires.2 c.wide.ensures.0
+    going_end _ (short_placed _ _ c.requires.0.placed _) _ _ _ _ _ _ _ c.loop-i.invariant c.loop-i-test.false c.requires.1 c.requires.2 c.wide.ensures.0

@@ -1,4 +1,4 @@
-use Rattle.values.proofs.Choices.{parens_none, parens-some}
+use Rattle.values.proofs.Choices.{parens_none, parens_some}
 use Rattle.values.proofs.fill.put_parens.Goals as goal
 
 pub returns-then-t-eq0 : goal.returns-then-t-eq0
@@ -7,4 +7,4 @@ returns-then-t-eq0 c =
 
 pub returns : goal.returns
 returns c =
-    parens-some _ _ _ c.if-t-eq0.false c.requires.0 _ _ _ _ _ _ c.put_byte-a.ensures c.put_text-e.ensures c.put_byte.ensures
+    parens_some _ _ _ c.if-t-eq0.false c.requires.0 _ _ _ _ _ _ c.put_byte-a.ensures c.put_text-e.ensures c.put_byte.ensures

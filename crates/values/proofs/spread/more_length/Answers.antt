@@ -1,6 +1,6 @@
 use Rattle.values.proofs.Keeping.{start_inside}
 use Rattle.values.proofs.Copying.{behind_low}
-use Rattle.values.proofs.Spreading.{more_zero, more-counted}
+use Rattle.values.proofs.Spreading.{more_zero, more_counted}
 use Rattle.values.proofs.spread.more_length.Goals as goal
 
 pub returns-then-n-lt2 : goal.returns-then-n-lt2
@@ -16,4 +16,4 @@ pub copies_length-requires : goal.copies_length-requires
 copies_length-requires c = (c.requires.2, c.requires.3, behind_low c.args.t.now c.piece_start-start.result c.args.c _ c.requires.4 c.behind_sign.ensures)
 
 pub returns : goal.returns
-returns c = more-counted _ _ _ _ _ c.piece_start-start.ensures _ c.requires.2 c.requires.3 c.behind_sign.ensures _ c.copies_length.ensures
+returns c = more_counted _ _ _ _ _ c.piece_start-start.ensures _ c.requires.2 c.requires.3 c.behind_sign.ensures _ c.copies_length.ensures

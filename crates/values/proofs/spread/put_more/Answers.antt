@@ -2,7 +2,7 @@ use native.Mathlib.Omega.{arith}
 use mathlib.Core.Path.{refl}
 use Rattle.values.proofs.Keeping.{start_inside}
 use Rattle.values.proofs.Copying.{behind_low, few_copies, sign_sign}
-use Rattle.values.proofs.Spreading.{more_nothing, more_wrote, more-written}
+use Rattle.values.proofs.Spreading.{more_nothing, more_wrote, more_written}
 use Rattle.values.proofs.spread.put_more.Goals as goal
 
 pub returns-then-n-lt2 : goal.returns-then-n-lt2
@@ -39,7 +39,7 @@ write_copies-requires c =
 
 pub returns-then-a-m : goal.returns-then-a-m
 returns-then-a-m c =
-    more-written _ _ _ _ _ c.piece_start-start.ensures _ c.requires.2 c.requires.3 c.behind_sign-rest.ensures _ _ _ _ _ _ _ c.sign_of-sign.ensures c.wide-a.ensures.0 c.write_copies.ensures c.copies_length-m.ensures c.if-a-m.true c.requires.5 refl
+    more_written _ _ _ _ _ c.piece_start-start.ensures _ c.requires.2 c.requires.3 c.behind_sign-rest.ensures _ _ _ _ _ _ _ c.sign_of-sign.ensures c.wide-a.ensures.0 c.write_copies.ensures c.copies_length-m.ensures c.if-a-m.true c.requires.5 refl
 
 pub put_copies-requires : goal.put_copies-requires
 put_copies-requires c =

@@ -1,5 +1,5 @@
 use Rattle.values.proofs.Keeping.{last_short}
-use Rattle.values.proofs.Spreading.{spreading_start, spreading_end, spreading-copies, spreading-more, spread_behind}
+use Rattle.values.proofs.Spreading.{spreading_start, spreading_end, spreading_copies, spreading_more, spread_behind}
 use mathlib.Core.Path.{◌∙◌}
 use native.Mathlib.Omega.{arith}
 use Rattle.values.proofs.spread.put_spread.Goals as goal
@@ -34,7 +34,7 @@ put_first-o-requires c =
 
 pub put_more-o-requires : goal.put_more-o-requires
 put_more-o-requires c =
-    let w = spreading-copies _ _ _ _ _ _ _ c.loop-out.invariant _ c.find_all-c.ensures _ _ c.if-t-c.false c.requires.0 c.put_first-o.ensures in (c.find_all-c.ensures.free.low, c.if-t-c.false, c.requires.0, c.requires.1, c.requires.2, omega (arith, w.long, c.requires.3), w.low)
+    let w = spreading_copies _ _ _ _ _ _ _ c.loop-out.invariant _ c.find_all-c.ensures _ _ c.if-t-c.false c.requires.0 c.put_first-o.ensures in (c.find_all-c.ensures.free.low, c.if-t-c.false, c.requires.0, c.requires.1, c.requires.2, omega (arith, w.long, c.requires.3), w.low)
 
 pub overflow_add-i : goal.overflow_add-i
 overflow_add-i c =
@@ -46,4 +46,4 @@ loop-out-smaller c =
 
 pub loop-out-preserved : goal.loop-out-preserved
 loop-out-preserved c =
-    spreading-more _ _ _ _ _ _ _ c.loop-out.invariant _ c.find_all-c.ensures _ _ c.if-t-c.false c.requires.0 c.put_first-o.ensures _ _ c.put_more-o.ensures
+    spreading_more _ _ _ _ _ _ _ c.loop-out.invariant _ c.find_all-c.ensures _ _ c.if-t-c.false c.requires.0 c.put_first-o.ensures _ _ c.put_more-o.ensures

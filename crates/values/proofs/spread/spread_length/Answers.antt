@@ -1,5 +1,5 @@
 use native.Mathlib.Omega.{arith}
-use Rattle.values.proofs.Spreading.{counting_start, counting_end, counting-few, counting_more}
+use Rattle.values.proofs.Spreading.{counting_start, counting_end, counting_few, counting_more}
 use Rattle.values.proofs.spread.spread_length.Goals as goal
 
 pub loop-n-init : goal.loop-n-init
@@ -32,7 +32,7 @@ more_length-requires c =
 
 pub overflow_add-m-in-loop-n-2 : goal.overflow_add-m-in-loop-n-2
 overflow_add-m-in-loop-n-2 c =
-    omega (arith, c.find_all-c.ensures.free.low, c.find_all-c.ensures.free.high, c.loop-n.invariant.most, c.requires.2, counting-few _ _ _ _ c.loop-n.invariant _ c.find_all-c.ensures c.if-t-c.false c.requires.0 c.requires.1 _ c.more_length.ensures)
+    omega (arith, c.find_all-c.ensures.free.low, c.find_all-c.ensures.free.high, c.loop-n.invariant.most, c.requires.2, counting_few _ _ _ _ c.loop-n.invariant _ c.find_all-c.ensures c.if-t-c.false c.requires.0 c.requires.1 _ c.more_length.ensures)
 
 pub overflow_add-i : goal.overflow_add-i
 overflow_add-i c =

@@ -1,6 +1,6 @@
 use native.Mathlib.Omega.{arith}
 use Rattle.card.proofs.Judged.{untouched}
-use Rattle.xkbrules.proofs.CardWays.{read-broken, read-sheet, read_done, read-refused}
+use Rattle.xkbrules.proofs.CardWays.{read_broken, read_sheet, read_done, read_refused}
 use borrow.Author.Rules.{rules}
 use Rattle.xkbrules.proofs.cards.xkbrules_card_read.Statement.{statement}
 use Rattle.xkbrules.proofs.cards.xkbrules_card_read.Tie as tie
@@ -12,13 +12,13 @@ refusal-requires : tie.Need-refusal-requires
 refusal-requires c κs = search rules
 
 returns : tie.Need-returns
-returns c = read-sheet _ _ _ _ c.before.before.before.judge.ensures _ c.before.if2.true c.before.before.before.before.if1.true c.refusal.ensures
+returns c = read_sheet _ _ _ _ c.before.before.before.judge.ensures _ c.before.if2.true c.before.before.before.before.if1.true c.refusal.ensures
 
 refusal-requires-2 : tie.Need-refusal-requires-2
 refusal-requires-2 c κs = search rules
 
 returns-2 : tie.Need-returns-2
-returns-2 c = read-broken _ _ _ _ c.before.before.before.judge.ensures _ c.before.if2.false c.refusal2.ensures
+returns-2 c = read_broken _ _ _ _ c.before.before.before.judge.ensures _ c.before.if2.false c.refusal2.ensures
 
 read-requires : tie.Need-read-requires
 read-requires c κs = search rules
@@ -42,7 +42,7 @@ same-length-3 : tie.Need-same-length-3
 same-length-3 c = search rules
 
 returns-4 : tie.Need-returns-4
-returns-4 c = read-refused _ _ _ _ _ c.before.before.before.before.before.read.ensures _ c.before.if3.false c.refusal3.ensures
+returns-4 c = read_refused _ _ _ _ _ c.before.before.before.before.before.read.ensures _ c.before.if3.false c.refusal3.ensures
 
 pub xkbrules-card-read-spec : {M : Type 1} → statement M
 xkbrules-card-read-spec =
