@@ -1,5 +1,6 @@
 // The entries for C, on numbers and byte slices only. A slice is a pointer and a length there: include/xkbrules.h declares them.
 #![tactic(auto)]
+
 ghost use Rattle.std.specs.Prelude.{◌≡◌, ◌+◌, ◌*◌, ◌^◌, ◌≤◌, length};
 ghost use Rattle.profile.specs.Profile.{texts_of};
 ghost use Rattle.answers.specs.Answer.{buffer_after};
