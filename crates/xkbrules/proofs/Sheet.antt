@@ -48,12 +48,11 @@ numbers_back [] s h = refl
 numbers_back (x ∷ ns) s h =
     let a : x < 2 ^ 32 = omega arith in
     let b : sum ns < 2 ^ 32 = omega arith in
-    rw (
-      append_assoc (little_endian x) (concat_map little_endian ns) s,
-      read_back x (concat_map little_endian ns ++ s) a,
-      numbers_behind x (concat_map little_endian ns ++ s) 0 (length ns),
-      numbers_back ns s b,
-    )
+    let e : concat_map little_endian (x ∷ ns) ++ s ≡ little_endian x ++ (concat_map little_endian ns ++ s) = append_assoc (little_endian x) (concat_map little_endian ns) s in
+    let f : number_at (concat_map little_endian (x ∷ ns) ++ s) 0 ≡ x = ap (λ (u : Text). number_at u 0) e ∙ read_back x (concat_map little_endian ns ++ s) a in
+    let g : numbers_from (concat_map little_endian (x ∷ ns) ++ s) (0 + 4) (length ns) ≡ ns =
+    ap (λ (u : Text). numbers_from u (0 + 4) (length ns)) e ∙ numbers_behind x (concat_map little_endian ns ++ s) 0 (length ns) ∙ numbers_back ns s b in
+    rw f (ap (λ (u : List ℕ). x ∷ u) g)
 
 pub written_length : (ns : List ℕ) → length (concat_map little_endian ns) ≡ 4 * length ns
 unfolding concat_map little_endian

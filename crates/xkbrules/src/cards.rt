@@ -17,8 +17,7 @@ fn refusal(number: usize, place: usize) -> u64
 
 // Writes the card of a profile of four texts and of ten texts that `texts` begins with; `sheet` has their lengths. Gives the card's length, or a refusal's
 // number times 2^48 plus its place, and then `card` is as it was.
-#[unsafe(no_mangle)]
-pub extern "C" fn xkbrules_card_write(
+pub fn xkbrules_card_write(
     model: &[u8],
     layouts: &[u8],
     variants: &[u8],
@@ -47,8 +46,7 @@ pub extern "C" fn xkbrules_card_write(
 
 // Reads a card: `texts` then starts with its fourteen texts and `sheet` with their lengths, and the answer is 0. A refusal is its number times 2^48 and
 // leaves both as they were; with a sheet under 56 bytes nothing is written, so the card is only judged.
-#[unsafe(no_mangle)]
-pub extern "C" fn xkbrules_card_read(card: &[u8], texts: &mut [u8], sheet: &mut [u8]) -> u64
+pub fn xkbrules_card_read(card: &[u8], texts: &mut [u8], sheet: &mut [u8]) -> u64
     ensures { CardReads card.now texts.old texts.new sheet.old sheet.new result }
 {
     if sheet.len() < 56 {

@@ -10,7 +10,7 @@ use answers::components::sum_first;
 use lengths::{lengths_in, put_lengths};
 use resolver::resolving::{measure, resolve};
 
-mod cards;
+pub mod cards;
 mod lengths;
 
 // A refusal's number and place in one number: no place is over 65,537, a line more than the longest file has bytes.
@@ -23,8 +23,7 @@ fn packed(number: usize, place: usize) -> u64
 
 // Resolves `rules` for a profile of four texts. Accepted is 0: then `texts` starts with the ten texts and `sheet` with their lengths. A refusal is its number
 // times 2^48 plus its place, and leaves both as they were; with a sheet under 40 bytes nothing is written, so the answer is measured.
-#[unsafe(no_mangle)]
-pub extern "C" fn xkbrules_resolve(
+pub fn xkbrules_resolve(
     rules: &[u8],
     model: &[u8],
     layouts: &[u8],
@@ -58,8 +57,7 @@ pub extern "C" fn xkbrules_resolve(
 
 // Where a component stands in `texts` by the lengths in `sheet`: its start times 2^32 plus its length. 0 for a number over 4, a sheet under 40 bytes, and
 // lengths whose sum is over that of `texts` or over 32 bits.
-#[unsafe(no_mangle)]
-pub extern "C" fn xkbrules_component(texts: &[u8], sheet: &[u8], component: u64) -> u64
+pub fn xkbrules_component(texts: &[u8], sheet: &[u8], component: u64) -> u64
     ensures { result ≡ component_code (length texts.now) sheet.now component }
 {
     if 4 < component {
