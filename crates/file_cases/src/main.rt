@@ -1,11 +1,14 @@
 // A file resolved for the empty profile, over many files: standard input holds them with a line `====` between two. Then on files of 65,536 and 65,537 blanks.
 #![tactic(auto)]
+
 ghost use Rattle.std.specs.Prelude.{◌≡◌};
 ghost use Rattle.file_cases.specs.Cases.{starts, separates, CaseEnd};
 
 use resolver::resolving::measure;
 use rules::headings::begins;
 use rules::percent::{byte_at, tail};
+use standard_input::read_full;
+use std::io;
 
 // Whether a line starts at a place.
 fn starts_line(s: &[u8], at: usize) -> bool
@@ -41,37 +44,33 @@ fn case_end(s: &[u8]) -> usize
 }
 
 // One file: `refused 6 at 2`, or `accepted`.
-fn report(file: &[u8]) {
+fn report(rt: &HostRuntime, file: &[u8]) -> io::Result<()> {
     let r = measure(file, b"", b"", b"", b"", 1048576);
     if r.number == 0 {
-        io::write_all(1, b"accepted\n");
-        return;
+        println!(rt; "accepted")?;
+        return Ok(());
     }
-    io::write_all(1, b"refused ");
-    io::print_decimal(1, r.number as u64);
-    io::write_all(1, b" at ");
-    io::print_decimal(1, r.place as u64);
-    io::write_all(1, b"\n");
+    println!(rt; "refused {} at {}", r.number, r.place)
 }
 
-fn report_all(s: &[u8]) {
+fn report_all(rt: &HostRuntime, s: &[u8]) -> io::Result<()> {
     let mut from: usize = 0;
     loop {
         let rest = &s[from..];
         let end = case_end(rest);
-        report(&rest[0..end]);
+        report(rt, &rest[0..end])?;
         if rest.len() - end < 5 {
-            return;
+            return Ok(());
         }
         from = from + end + 5;
     }
 }
 
-fn main() {
-    let mut input = io::large_buffer();
-    let n = io::read_full(0, &mut input);
-    report_all(&input[..n]);
+fn main(rt: HostRuntime) -> io::Result<()> {
+    let mut input: [u8; 65536] = [0; 65536];
+    let n = read_full(&mut rt.reader(), &mut input)?;
+    report_all(&rt, &input[..n])?;
     let blanks: [u8; 65537] = [32; 65537];
-    report(&blanks[..65536]);
-    report(&blanks);
+    report(&rt, &blanks[..65536])?;
+    report(&rt, &blanks)
 }

@@ -1,14 +1,13 @@
 // Standard input, or any other reader, into a lent buffer.
 #![tactic(auto)]
 
-ghost use Rattle.std.specs.Prelude.{IfOk};
-ghost use Rattle.core.specs.Prelude.{IsPrefixLen};
+ghost use Rattle.std.specs.Io.{ReadsAtMost};
 
 use std::io::{Read, Result};
 
 // Reads until the buffer is full or the input ends, and gives how many bytes now stand at its start.
 pub fn read_full<R: Read>(reader: &mut R, buf: &mut [u8]) -> Result<usize>
-    ensures { IfOk result (λ n. IsPrefixLen n buf.new) }
+    ensures { ReadsAtMost result buf.new }
 {
     let mut done = 0;
     while done < buf.len() {

@@ -9,7 +9,6 @@ use lib.ListN.{length, take, drop, get_or, length-append}
 use lib.Dec.{ltb}
 use borrow.Author.Tests.{lt-ltb, le-ltb, ltb-false}
 use Rattle.text.specs.Bytes.{Text, bytes}
-use Rattle.io.specs.Counts.{IsPrefixLen}
 use Rattle.output.specs.Store.{farthest, past, Wrote}
 use Rattle.output.proofs.Stores.{take_stored, wrote_then}
 use Rattle.values.proofs.Writes.{wrote_long}
@@ -146,7 +145,7 @@ module _ (d d' t : Text) (r : ℕ) (size : length t ≤ length d) (low : length 
       let e : r ≡ 0 + length t = counted ∙ sym (zero-add (length t)) in
       rw (e, w.text) (take_stored d 0 t (omega arith))
 
-  pub out_counts : IsPrefixLen r d'
+  pub out_counts : (r ≤ length d') × (r ≡ length (take r d'))
   out_counts =
       let l : length d' ≡ length d = wrote_long d d' 0 t r w in
       (omega (arith, counted), sym (ap length out_text ∙ sym counted))

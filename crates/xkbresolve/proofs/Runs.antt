@@ -5,7 +5,6 @@ use mathlib.Core.Path.{◌≡◌, refl, sym, ap, ◌∙◌}
 use mathlib.Core.List.{List}
 use lib.ListN.{length, take, length-append}
 use borrow.Author.Tests.{lt-ltb, le-ltb}
-use Rattle.io.specs.Counts.{IsPrefixLen}
 use Rattle.text.specs.Limits.{longest_file}
 use Rattle.text.specs.Bytes.{Text, bytes}
 use Rattle.output.specs.Store.{farthest, Wrote}
@@ -45,7 +44,7 @@ module _ (room : ℕ) (f : Text) (t : Texts) (lent : room ≡ lent_room) where
 -- the buffer d of the output, which is d' in the end
 module _ (d d' : Text) (r : ℕ) (enough : most_printed ≤ length d) (low : length d ≤ farthest) where
   abbrev Out : Answer → Type 0
-  Out a = (take r d' ≡ printed a) × IsPrefixLen r d'
+  Out a = (take r d' ≡ printed a) × ((r ≤ length d') × (r ≡ length (take r d')))
 
   out : (a : Answer) → length (printed a) ≤ most_printed → Wrote d d' 0 (printed a) r → Out a
   out a h w = (out_text d d' (printed a) r (omega arith) low w, out_counts d d' (printed a) r (omega arith) low w)

@@ -1,13 +1,15 @@
 // Resolves a profile of four lines for the rules that follow them on standard input, and prints the five component strings or the refusal.
 #![tactic(auto)]
+
 ghost use Rattle.std.specs.Prelude.{◌≡◌, ◌≤◌, length, take};
-ghost use Rattle.io.specs.Counts.{IsPrefixLen};
 ghost use Rattle.output.specs.Store.{farthest};
 ghost use Rattle.xkbresolve.specs.Program.{input_answer, printed, most_printed};
 
 use input::{first_line, later_lines};
 use printing::{put_components, put_refusal};
 use resolver::resolving::resolve;
+use standard_input::read_full;
+use std::io;
 
 mod input;
 mod printing;
@@ -16,7 +18,7 @@ mod printing;
 fn run(input: &[u8], out: &mut [u8]) -> usize
     requires { (most_printed ≤ length out.old) × (length out.old ≤ farthest) }
     ensures out_after { take result out.new ≡ printed (input_answer input.now) }
-    ensures prefix_len { IsPrefixLen result out.new }
+    ensures prefix_len { (result ≤ length out.new) × (result ≡ length (take result out.new)) }
 {
     if 65536 < input.len() {
         return put_refusal(3, 0, out) as usize;
@@ -39,10 +41,10 @@ fn run(input: &[u8], out: &mut [u8]) -> usize
 }
 
 // One byte more than is looked at, so that a longer input is known to be too long.
-fn main() {
+fn main(rt: HostRuntime) -> io::Result<()> {
     let mut input: [u8; 65537] = [0; 65537];
-    let n = io::read_full(0, &mut input);
+    let n = read_full(&mut rt.reader(), &mut input)?;
     let mut out: [u8; 65600] = [0; 65600];
     let m = run(&input[..n], &mut out);
-    io::write_all(1, &out[..m]);
+    rt.write_all(&out[..m])
 }
