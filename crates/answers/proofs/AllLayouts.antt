@@ -11,7 +11,6 @@ use borrow.Author.Tests.{ltb-true, lt-ltb, eqb-false, ne_eqb}
 use Rattle.text.specs.Bytes.{Text, Words, bytes, same, empty, first, all_of, any_of, concat_map}
 use Rattle.text.proofs.Lists.{and_both, neither, same_eq, same_self, all_append}
 use Rattle.profile.specs.Profile.{Profile, layout_count, push}
-use Rattle.rules.specs.declared.Column.{Column}
 use Rattle.rules.specs.declared.Column.TheVariants as column
 use Rattle.rules.specs.Words.{is_star, is_equals, has_dollar}
 use Rattle.rules.specs.Headings.{Heading, decimal, up_from, index_of, left_item, component_of, columns_in, indexes_in, column_number, index_number, known_index, known_item, distinct, alike, first_index, heading_of, good_items}

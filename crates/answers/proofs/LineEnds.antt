@@ -1,5 +1,5 @@
 -- A file with CR LF for each LF resolves as the original.
-use Prim.Native.Nat.{ℕ, ◌+◌, ◌≤◌}
+use Prim.Native.Nat.{ℕ, ◌≤◌}
 use native.Mathlib.Omega.{arith}
 use mathlib.Core.Path.{◌≡◌, sym, ap, ◌∙◌}
 use mathlib.Core.List.{[], ◌∷◌}
@@ -9,7 +9,7 @@ use lib.Dec.{eqb}
 use borrow.Author.Tests.{le-ltb}
 use Rattle.text.specs.Limits.{longest_file}
 use Rattle.text.specs.Bytes.{Text}
-use Rattle.text.specs.Lines.{lines, crlf, no_return}
+use Rattle.text.specs.Lines.{crlf, no_return}
 use Rattle.text.proofs.LineEnds.{crlf_lines}
 use Rattle.profile.specs.Profile.{Texts}
 use Rattle.rules.specs.Faults.{line_faults, file_refusals}

@@ -1,15 +1,15 @@
 -- A group line: its words one by one, and the line as a whole.
-use Prim.Native.Nat.{ℕ, ◌+◌, ◌≤◌, ◌<◌}
+use Prim.Native.Nat.{ℕ, ◌≤◌, ◌<◌}
 use native.Mathlib.Omega.{arith}
-use mathlib.Core.Path.{◌≡◌, refl, sym, ap, ◌∙◌}
+use mathlib.Core.Path.{◌≡◌, refl, sym, ◌∙◌}
 use mathlib.Core.List.{List, [], ◌∷◌}
 use mathlib.Core.Bool.{Bool, true, false, ◌&&◌, cond}
-use lib.ListN.{length, get_or, drop}
+use lib.ListN.{length, get_or}
 use lib.Dec.{eqb}
 use borrow.Author.Tests.{eq-eqb, ne_eqb, eqb-true, eqb-false}
-use Rattle.text.specs.Bytes.{Text, Words, first, rest, part, all_of, any_of}
+use Rattle.text.specs.Bytes.{Text, Words, first, rest, part, all_of}
 use Rattle.text.specs.Words.{words_fault}
-use Rattle.text.specs.Reading.{left, ahead, follow, lower, fault_of, FoundWord, NoWord, Passed}
+use Rattle.text.specs.Reading.{left, lower, FoundWord, NoWord}
 use Rattle.text.proofs.Lists.{no, and_both, any_nil}
 use Rattle.text.proofs.Positions.{part_cons}
 use Rattle.text.proofs.Readers.{fault_cons, fault_nil, lower_none, lower_zero, lower_assoc}
@@ -17,7 +17,6 @@ use Rattle.rules.specs.Words.{is_equals, has_dollar, is_group_name, ordinary}
 use Rattle.rules.specs.Entries.{Entry, wrong, group, group_entry, heading_entry, entry_of}
 use Rattle.rules.specs.Checking.{line_of}
 use Rattle.names.specs.Compiled.{Joined}
-use Rattle.names.specs.declared.Row.{Row}
 use Rattle.names.proofs.Joining.{says_none}
 use Rattle.judging.specs.declared.FirstWord.{FirstWord}
 use Rattle.judging.specs.declared.Members.{Members}

@@ -1,9 +1,9 @@
 -- The heading of a set: one law for each way it is judged.
 use Prim.Native.Nat.{ℕ, ◌+◌, ◌≤◌}
 use native.Mathlib.Omega.{arith}
-use mathlib.Core.Path.{◌≡◌, refl, sym, ap, ◌∙◌}
+use mathlib.Core.Path.{◌≡◌, refl, sym, ◌∙◌}
 use mathlib.Core.List.{List, [], ◌∷◌, map}
-use mathlib.Core.Bool.{Bool, true, false, not, ◌&&◌}
+use mathlib.Core.Bool.{true, false, not}
 use lib.ListN.{length, get_or, drop, length-append}
 use borrow.Author.Tests.{not-true}
 use Rattle.text.specs.Bytes.{Text, Words, empty, all_of, concat_map}

@@ -9,7 +9,7 @@ use lib.Dec.{eqb, ltb}
 use lib.ListN.{length, get_or, take, drop, drop_of_length-le}
 use borrow.Author.Tests.{ne_eqb, eqb-true, eqb-false, eq-eqb, ltb-true, ltb-false, le-ltb}
 use Rattle.text.specs.Bytes.{Text, same, empty, first, part, any_of}
-use Rattle.text.proofs.Lists.{no, same_eq, same_self, empty_some, any_nil, any_cons}
+use Rattle.text.proofs.Lists.{same_eq, same_self, empty_some, any_nil, any_cons}
 use Rattle.text.proofs.Positions.{part_empty, length_part}
 use Rattle.profile.specs.Profile.{Texts, profile_of, layout_count, fields, drop_empty, options_of}
 use Rattle.profile.specs.Splitting.{FieldEnd}

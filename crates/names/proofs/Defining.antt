@@ -4,7 +4,7 @@ use native.Mathlib.Omega.{arith}
 use mathlib.Core.Path.{◌≡◌, refl, sym, ap, ◌∙◌}
 use mathlib.Core.List.{List, [], ◌∷◌}
 use mathlib.Core.Bool.{Bool, true, false, ◌||◌}
-use lib.Dec.{eqb, leb}
+use lib.Dec.{leb}
 use lib.ListN.{length, take}
 use borrow.Author.Tests.{eqb-true, le-leb, lt-leb}
 use Rattle.text.specs.Limits.{most_groups}
@@ -15,7 +15,6 @@ use Rattle.rules.specs.Words.{has_dollar, ordinary}
 use Rattle.rules.specs.Faults.{Group, Groups, defined}
 use Rattle.listing.specs.Names.{Named, names_at}
 use Rattle.names.specs.declared.Row.{Row}
-use Rattle.names.specs.declared.GroupDefined.{GroupDefined}
 use Rattle.names.specs.Rows.{asks}
 use Rattle.names.specs.Compiled.{Tables, Joined, Renewed, NewName}
 use Rattle.names.specs.Ready.{Ready}

@@ -4,7 +4,7 @@ use Rattle.text.specs.Limits.{most_groups}
 use Rattle.text.specs.Bytes.{Text, Words, rest, all_of}
 use Rattle.profile.specs.Profile.{Texts}
 use Rattle.rules.specs.Words.{ordinary}
-use Rattle.rules.specs.Faults.{Group, Groups, defined}
+use Rattle.rules.specs.Faults.{Groups, defined}
 use Rattle.names.specs.declared.Row.{Row}
 use Rattle.names.specs.declared.GroupDefined.{GroupDefined}
 use Rattle.names.specs.Compiled.{Tables, Joined}

@@ -1,36 +1,31 @@
 -- A file read from its first line on: the loop over its steps.
-use Prim.Native.Nat.{ℕ, ◌+◌, ◌*◌, ◌-◌, ◌≤◌, ◌<◌}
+use Prim.Native.Nat.{ℕ, ◌+◌, ◌-◌, ◌≤◌, ◌<◌}
 use native.Mathlib.Omega.{arith}
 use mathlib.Core.Path.{◌≡◌, refl, sym, ap, ◌∙◌}
-use mathlib.Core.List.{List, [], ◌∷◌, map}
+use mathlib.Core.List.{List, []}
 use mathlib.Core.Bool.{Bool, true, false, cond}
-use lib.ListN.{length, get_or, take, replicate, length-replicate}
-use Rattle.text.specs.Limits.{most_groups, longest_word}
+use lib.ListN.{length, replicate, length-replicate}
 use Rattle.text.specs.Bytes.{Text}
 use Rattle.text.specs.Lines.{lines}
-use Rattle.text.specs.Refusals.{first_refusal}
 use Rattle.text.specs.Reading.{follow}
 use Rattle.text.proofs.Lists.{no}
 use Rattle.output.specs.Store.{farthest}
 use Rattle.profile.specs.Profile.{Texts, profile_of}
 use Rattle.rules.specs.declared.SetHeading.{SetHeading}
-use Rattle.rules.specs.Faults.{line_faults}
 use Rattle.rules.specs.Checking.{no_heading, check_from}
 use Rattle.rules.proofs.LineChecks.{lines_checked}
-use Rattle.values.specs.Filling.{most_per_byte}
 use Rattle.firing.specs.declared.Cursors.{Cursors}
 use Rattle.firing.specs.Writing.{Low, run_buf, run_cur}
-use Rattle.firing.specs.Line.{Fires}
 use Rattle.rules.specs.Held.{SetSized}
 use Rattle.names.specs.declared.Held.{Held}
 use Rattle.answers.specs.Firings.{file_firings}
 use Rattle.reading.specs.declared.Reading.{Reading}
 use Rattle.reading.specs.declared.FileRead.{FileRead}
 use Rattle.reading.specs.Order.{firings_from}
-use Rattle.reading.specs.Owed.{Kept, owed}
+use Rattle.reading.specs.Owed.{owed}
 use Rattle.reading.specs.Opening.{closed_set}
 use Rattle.reading.specs.Keeping.{most_places}
-use Rattle.reading.specs.States.{Sound, ReadTo}
+use Rattle.reading.specs.States.{Sound}
 use Rattle.reading.specs.Steps.{Leads, Stepped}
 use Rattle.reading.specs.Files.{Started, NamesStart, HoldsProfile, FileReadOf}
 use Rattle.reading.proofs.LineFires.{firings_start}

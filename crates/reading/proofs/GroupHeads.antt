@@ -1,32 +1,26 @@
 -- A group line: refused, or one group more.
-use Prim.Native.Nat.{ℕ, ◌+◌, ◌*◌, ◌-◌, ◌≤◌, ◌<◌}
+use Prim.Native.Nat.{ℕ, ◌-◌, ◌≤◌}
 use native.Mathlib.Omega.{arith}
 use mathlib.Core.Path.{◌≡◌, refl, sym, ap, ◌∙◌}
-use mathlib.Core.List.{List, [], ◌∷◌, ◌++◌}
+use mathlib.Core.List.{List, ◌∷◌, ◌++◌}
 use mathlib.Core.Bool.{Bool, true, false, ◌||◌, cond}
 use lib.ListN.{length, take, length-append}
 use lib.Dec.{eqb, ltb, leb}
-use borrow.Author.Tests.{eqb-true, eqb-false, eq-eqb, ne_eqb, ltb-false, le-leb}
+use borrow.Author.Tests.{eqb-true, eqb-false, ne_eqb, ltb-false, le-leb}
 use Rattle.text.specs.Limits.{most_groups, longest_word}
-use Rattle.text.specs.Bytes.{Text, Words, rest, part, any_of, all_of}
-use Rattle.text.specs.Lines.{Line}
+use Rattle.text.specs.Bytes.{Text, Words, rest, part, any_of}
 use Rattle.text.specs.Refusals.{first_refusal}
 use Rattle.text.specs.Words.{bad_byte, too_long, words_fault}
-use Rattle.text.specs.Reading.{left, ahead, follow}
+use Rattle.text.specs.Reading.{left, follow}
 use Rattle.text.proofs.Lists.{no, or_right, neither, any_cons}
-use Rattle.text.proofs.Positions.{length_part}
 use Rattle.profile.specs.Profile.{Texts, profile_of}
-use Rattle.profile.specs.Places.{most_values, InText, Placed, ValuesOf}
-use Rattle.rules.specs.declared.Present.{Present}
-use Rattle.rules.specs.declared.SetHeading.{SetHeading}
-use Rattle.rules.specs.Entries.{Entry, wrong, group, entry_of, heading_entry}
-use Rattle.rules.specs.Faults.{Group, Groups, defined}
+use Rattle.profile.specs.Places.{Placed}
+use Rattle.rules.specs.Entries.{wrong, group, entry_of}
+use Rattle.rules.specs.Faults.{Groups, defined}
 use Rattle.rules.specs.Checking.{line_of, no_heading, check_from}
 use Rattle.rules.proofs.CheckSteps.{entry_any}
 use Rattle.firing.specs.Writing.{run_buf, run_cur}
-use Rattle.firing.specs.Line.{Fires}
 use Rattle.names.specs.declared.GroupDefined.{GroupDefined}
-use Rattle.names.specs.Compiled.{Tables, Joined}
 use Rattle.names.specs.Ready.{Ready}
 use Rattle.names.specs.Defining.{Defines}
 use Rattle.names.proofs.Defining.{whole}
@@ -40,8 +34,8 @@ use Rattle.reading.specs.Order.{firings_from}
 use Rattle.reading.specs.Owed.{Kept, owed}
 use Rattle.reading.specs.Seeking.{SetOpen}
 use Rattle.reading.specs.Opening.{closed_set}
-use Rattle.reading.specs.States.{names_of, Sound, ReadTo}
-use Rattle.reading.specs.Steps.{Stepped, Leads, stopped_at}
+use Rattle.reading.specs.States.{names_of}
+use Rattle.reading.specs.Steps.{stopped_at}
 use Rattle.reading.specs.Heads.{AtHeading, AtGroup, SetRead, HeadRead, grouped_at}
 use Rattle.reading.proofs.HeadLines.{fires_group, faults_wrong, faults_twice, faults_group}
 use Rattle.reading.proofs.Stepping.{heading_first, owed_closed, closed_kept}

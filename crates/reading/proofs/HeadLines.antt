@@ -1,12 +1,12 @@
 -- A heading ends the set before it: what it is, and what it leaves to be refused and to fire.
 use Prim.Native.Nat.{ℕ, ◌+◌, ◌≤◌, ◌<◌}
 use native.Mathlib.Omega.{arith}
-use mathlib.Core.Path.{◌≡◌, refl, sym, ap, ◌∙◌}
+use mathlib.Core.Path.{◌≡◌, refl, ap, ◌∙◌}
 use mathlib.Core.List.{List, [], ◌∷◌, ◌++◌, map}
 use mathlib.Core.Bool.{Bool, true, false, ◌||◌, ◌&&◌, cond}
 use lib.ListN.{length}
 use lib.Dec.{eqb, leb}
-use borrow.Author.Tests.{ne_eqb, eq-eqb}
+use borrow.Author.Tests.{ne_eqb}
 use Rattle.text.specs.declared.Refusal.{Refusal}
 use Rattle.text.specs.Limits.{most_groups}
 use Rattle.text.specs.Bytes.{Text, Words, bytes, same, any_of, all_of}
@@ -24,10 +24,10 @@ use Rattle.rules.specs.Faults.{Group, Groups, defined}
 use Rattle.rules.specs.Checking.{line_of, no_heading, present_of, line_fault, present_after, names_after, check_from}
 use Rattle.rules.proofs.CheckSteps.{check_cons}
 use Rattle.answers.specs.Matching.{members}
-use Rattle.answers.specs.Firings.{Firing, head_fires}
+use Rattle.answers.specs.Firings.{head_fires}
 use Rattle.reading.specs.declared.OpenSet.{OpenSet}
 use Rattle.reading.specs.Order.{rules_from, firings_from}
-use Rattle.reading.specs.Owed.{Kept, AllWanted, set_owes, owed, kept_fires}
+use Rattle.reading.specs.Owed.{Kept, AllWanted, owed, kept_fires}
 use Rattle.reading.proofs.LineFires.{next_rules, rules_line, rules_none, next_firings, firings_line, firings_none}
 use Rattle.reading.proofs.Owing.{owes_end}
 

@@ -1,7 +1,6 @@
 -- Places kept, and the rules at them fired: one law for each way through the loops.
 use Prim.Native.Nat.{ℕ, suc, ◌+◌, ◌-◌, ◌≤◌, ◌<◌}
 use native.Mathlib.Omega.{arith}
-use native.Mathlib.Numerals.{add-one}
 use mathlib.Core.Path.{◌≡◌, refl, sym, ap, ◌∙◌}
 use mathlib.Core.List.{List, [], ◌∷◌, ◌++◌}
 use mathlib.Core.Bool.{Bool, true, false, cond}
@@ -27,7 +26,7 @@ use Rattle.rules.proofs.HeldHeadings.{components_are}
 use Rattle.reading.specs.declared.OpenSet.{OpenSet}
 use Rattle.reading.specs.Owed.{layouts_in}
 use Rattle.reading.specs.Seeking.{PlaceAt}
-use Rattle.reading.specs.Keeping.{most_places, Noted, KeptPlaces, place_fires, KeptFired}
+use Rattle.reading.specs.Keeping.{most_places, Noted, place_fires, KeptFired}
 
 -- a place kept
 

@@ -1,7 +1,7 @@
 -- The kept rules, fired with the values in the names' text, are those of the profile.
 use Prim.Native.Nat.{ℕ, ◌+◌, ◌≤◌, ◌<◌}
-use mathlib.Core.Path.{◌≡◌, refl, sym, ap, ◌∙◌}
-use mathlib.Core.List.{List, [], ◌∷◌, ◌++◌}
+use mathlib.Core.Path.{◌≡◌, refl, ap, ◌∙◌}
+use mathlib.Core.List.{List, [], ◌∷◌}
 use mathlib.Core.Bool.{Bool, true, false, cond}
 use lib.ListN.{length, get_or, drop}
 use Rattle.text.specs.Bytes.{Text, Words, concat_map}
@@ -11,7 +11,7 @@ use Rattle.profile.specs.Places.{profile_at, ValuesOf}
 use Rattle.rules.specs.Faults.{right_words}
 use Rattle.values.specs.Spread.{expanded}
 use Rattle.values.proofs.Places.{placed_expanded}
-use Rattle.answers.specs.Firings.{Firing, fired, rule_fires, fires_at}
+use Rattle.answers.specs.Firings.{rule_fires, fires_at}
 use Rattle.bitsets.specs.Sets.{is_in}
 use Rattle.firing.specs.declared.Cursors.{Cursors}
 use Rattle.firing.specs.Writing.{run_buf, run_cur}

@@ -1,13 +1,13 @@
 -- A rule's left words: one law for each way through the loop over them.
-use Prim.Native.Nat.{ℕ, ◌+◌, ◌≤◌, ◌<◌}
+use Prim.Native.Nat.{ℕ, ◌+◌, ◌≤◌}
 use native.Mathlib.Omega.{arith}
 use mathlib.Core.Path.{◌≡◌, refl, sym, ap, ◌∙◌}
 use mathlib.Core.List.{List, [], ◌∷◌}
 use mathlib.Core.Bool.{Bool, true, false, ◌&&◌, and-true, and-false}
 use lib.ListN.{length, drop}
 use Rattle.text.specs.Bytes.{Text, Words, empty, part}
-use Rattle.text.specs.Reading.{left, ahead, FoundWord, NoWord}
-use Rattle.text.proofs.Lists.{no, empty_some}
+use Rattle.text.specs.Reading.{left, FoundWord, NoWord}
+use Rattle.text.proofs.Lists.{empty_some}
 use Rattle.text.proofs.Positions.{length_part}
 use Rattle.rules.specs.declared.Column.{Column}
 use Rattle.rules.specs.declared.Column.TheVariants as column
@@ -18,9 +18,9 @@ use borrow.Author.Tests.{ne_eqb}
 use Rattle.rules.specs.Held.{column_by}
 use Rattle.names.specs.declared.Row.{Row}
 use Rattle.names.specs.Rows.{Question, Level, says, Tells}
-use Rattle.names.specs.Compiled.{Compiled, Rowed}
+use Rattle.names.specs.Compiled.{Rowed}
 use Rattle.reading.specs.declared.LeftWords.{LeftWords}
-use Rattle.reading.specs.Left.{asked, Answers, AskedAt, LeftHeld}
+use Rattle.reading.specs.Left.{asked, AskedAt, LeftHeld}
 
 -- a row tells what is asked, also where the layout plays no part
 told_at : (q : Question) (n : ℕ) (w : Text) (r : Row) → Level q → 1 ≤ n → Tells q n w r → (k : ℕ) (c : Column) → AskedAt n k c → says r k c ≡ q k c w

@@ -2,10 +2,8 @@
 use Prim.Native.Nat.{ℕ, ◌+◌, ◌≤◌, ◌<◌}
 use native.Mathlib.Omega.{arith}
 use mathlib.Core.Path.{◌≡◌, refl, sym, ap, ◌∙◌}
-use mathlib.Core.List.{List, [], ◌∷◌, ◌++◌}
+use mathlib.Core.List.{List, [], ◌∷◌}
 use mathlib.Core.Bool.{Bool, true, false, cond}
-use lib.Dec.{eqb}
-use lib.ListN.{length}
 use Rattle.text.specs.Bytes.{Text, Words, any_of, concat_map}
 use Rattle.text.proofs.Lists.{no}
 use Rattle.profile.specs.Profile.{Profile, layout_count}
@@ -18,14 +16,13 @@ use Rattle.rules.specs.Checking.{present_of, present_by}
 use Rattle.answers.specs.Matching.{members, is_options}
 use Rattle.answers.specs.Layouts.{layouts_of, per_layout}
 use Rattle.answers.specs.Firings.{Firing, set_fires, rule_by_rule, head_fires}
-use Rattle.bitsets.specs.Sets.{is_in, Spans}
+use Rattle.bitsets.specs.Sets.{Spans}
 use Rattle.judging.specs.declared.Range.{Range}
 use Rattle.rules.specs.Held.{heading_by, SetSized, FromOne}
 use Rattle.rules.proofs.HeldHeadings.{columns_length, components_length}
 use Rattle.judging.proofs.LayoutRange.{range_within, range_single}
 use Rattle.reading.specs.declared.OpenSet.{OpenSet}
-use Rattle.reading.specs.Owed.{Kept, AllWanted, owed_at, set_owes}
-use Rattle.reading.specs.Seeking.{SetOpen}
+use Rattle.reading.specs.Owed.{Kept, owed_at, set_owes}
 use Rattle.reading.specs.Keeping.{most_places}
 use Rattle.reading.specs.Opening.{closed_set, Opened}
 use Rattle.reading.proofs.Owing.{each_same}

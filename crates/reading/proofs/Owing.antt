@@ -1,26 +1,19 @@
 -- What is still to fire, one line further.
 use Prim.Native.Nat.{ℕ, zero, suc, ◌+◌, ◌≤◌, ◌<◌}
 use native.Mathlib.Omega.{arith}
-use native.Mathlib.Numerals.{add-one}
 use mathlib.Core.Path.{◌≡◌, refl, sym, ap, ◌∙◌}
-use mathlib.Core.List.{List, [], ◌∷◌, ◌++◌, append_assoc, append-nil}
+use mathlib.Core.List.{List, [], ◌∷◌, ◌++◌}
 use mathlib.Core.Bool.{Bool, true, false, not, ◌&&◌, cond}
-use Rattle.text.specs.Bytes.{Text, Words, any_of, concat_map}
-use Rattle.text.specs.Lines.{Line}
-use Rattle.profile.specs.Profile.{Profile, layout_count}
+use Rattle.text.specs.Bytes.{Text, Words, concat_map}
+use Rattle.profile.specs.Profile.{Profile}
 use Rattle.rules.specs.Headings.{Heading, up_from}
-use Rattle.rules.specs.Entries.{Entry, ignored, wrong, group, set, rule, entry_of}
-use Rattle.rules.specs.Sections.{Rule, applies}
-use Rattle.rules.specs.Faults.{Groups, right_words}
-use Rattle.answers.specs.Matching.{members, is_options, rule_matches}
-use Rattle.answers.specs.Layouts.{layouts_of}
-use Rattle.answers.specs.Firings.{Firing, rule_fires, set_fires, rule_by_rule, fires_at, head_fires}
+use Rattle.rules.specs.Sections.{Rule}
+use Rattle.answers.specs.Matching.{rule_matches}
+use Rattle.answers.specs.Firings.{Firing, set_fires, rule_by_rule, fires_at}
 use Rattle.bitsets.specs.Sets.{is_in}
 use Rattle.rules.specs.Held.{heading_by}
 use Rattle.reading.specs.declared.OpenSet.{OpenSet}
-use Rattle.reading.specs.Order.{rules_from, firings_from}
-use Rattle.reading.specs.Owed.{Kept, AllWanted, wanting, keeping, layouts_in, owed_at, set_owes, owed, kept_fires}
-use Rattle.reading.proofs.LineFires.{next_rules, rules_line, rules_none, next_firings, firings_line}
+use Rattle.reading.specs.Owed.{Kept, AllWanted, wanting, keeping, layouts_in, owed_at, set_owes, kept_fires}
 
 -- two functions that are equal at each number of a range
 pub each_same : (f g : ℕ → List Firing) (n k : ℕ) → ((j : ℕ) → k ≤ j → j < k + n → f j ≡ g j) → concat_map f (up_from n k) ≡ concat_map g (up_from n k)

@@ -1,10 +1,10 @@
 -- A profile that is not refused, compiled, and a file read for it.
-use Prim.Native.Nat.{ℕ, ◌+◌, ◌*◌, ◌≤◌, ◌<◌}
+use Prim.Native.Nat.{ℕ, ◌≤◌, ◌<◌}
 use native.Mathlib.Omega.{arith}
-use mathlib.Core.Path.{◌≡◌, refl, sym, ap, ◌∙◌}
+use mathlib.Core.Path.{◌≡◌, refl, sym, ◌∙◌}
 use mathlib.Core.List.{List, []}
 use mathlib.Core.Bool.{Bool}
-use lib.ListN.{length, take, length-take}
+use lib.ListN.{length}
 use Rattle.text.specs.Limits.{most_layouts}
 use Rattle.text.specs.Bytes.{Text}
 use Rattle.profile.specs.Profile.{Texts, profile_of, layout_count, fields}

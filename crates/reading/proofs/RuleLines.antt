@@ -1,10 +1,10 @@
 -- A line that is no heading and is not refused: what it is, and what it leaves to be refused and to fire.
 use Prim.Native.Nat.{ℕ, ◌+◌, ◌≤◌, ◌<◌}
 use native.Mathlib.Omega.{arith}
-use mathlib.Core.Path.{◌≡◌, refl, sym, ap, ◌∙◌}
+use mathlib.Core.Path.{◌≡◌, refl, sym, ◌∙◌}
 use mathlib.Core.List.{List, [], ◌∷◌, ◌++◌, append_assoc}
 use mathlib.Core.Bool.{Bool, true, false, not, ◌&&◌, cond}
-use lib.ListN.{length, drop}
+use lib.ListN.{length}
 use lib.Dec.{eqb}
 use borrow.Author.Tests.{eqb-true, eqb-false, eq-eqb, ne_eqb}
 use Rattle.text.specs.declared.Refusal.{Refusal}
@@ -12,18 +12,16 @@ use Rattle.text.specs.Bytes.{Text, Words, any_of}
 use Rattle.text.specs.Lines.{Line}
 use Rattle.text.specs.Words.{bad_byte, too_long, words_fault}
 use Rattle.text.specs.Refusals.{refused_if, refused_as}
-use Rattle.text.proofs.Lists.{no, and_both}
+use Rattle.text.proofs.Lists.{and_both}
 use Rattle.profile.specs.Profile.{Profile}
 use Rattle.rules.specs.Headings.{Heading}
-use Rattle.rules.specs.Entries.{Entry, ignored, wrong, rule, rule_entry, entry_of}
-use Rattle.rules.specs.Sections.{Rule}
+use Rattle.rules.specs.Entries.{ignored, wrong, rule, rule_entry, entry_of}
 use Rattle.rules.specs.Faults.{Groups, rule_shape, shape_fault}
 use Rattle.rules.specs.declared.Present.{Present}
 use Rattle.rules.specs.Checking.{line_of, present_of, present_fault, line_fault, present_after, names_after, check_from}
 use Rattle.rules.proofs.CheckSteps.{check_cons}
 use Rattle.rules.proofs.LineChecks.{form_is}
 use Rattle.answers.specs.Matching.{members, rule_matches}
-use Rattle.answers.specs.Firings.{Firing}
 use Rattle.bitsets.specs.Sets.{is_in}
 use Rattle.rules.specs.Held.{heading_by}
 use Rattle.reading.specs.declared.OpenSet.{OpenSet}

@@ -4,24 +4,23 @@ use native.Mathlib.Omega.{arith}
 use native.Mathlib.Numerals.{add-one}
 use mathlib.Core.Path.{◌≡◌, refl, sym, ap, ◌∙◌}
 use mathlib.Core.List.{List, [], ◌∷◌}
-use mathlib.Core.Bool.{Bool, true, false, ◌||◌, ◌&&◌, and-true}
+use mathlib.Core.Bool.{Bool, true, false, ◌&&◌, and-true}
 use lib.ListN.{length, get_or, drop, length-drop, drop_of_length-le}
 use lib.Seq.{drop-cons, drop-drop}
 use lib.Dec.{eqb}
 use borrow.Author.Tests.{eqb-true, eqb-false}
 use Rattle.text.specs.Bytes.{Text, Words, any_of}
 use Rattle.text.specs.Words.{too_long}
-use Rattle.text.specs.Reading.{left, ahead, follow, Opens}
+use Rattle.text.specs.Reading.{left, follow, Opens}
 use Rattle.text.proofs.Lists.{no, or_right, any_drop}
 use Rattle.text.proofs.Readers.{no_lines}
 use Rattle.profile.specs.Profile.{Texts, Profile, profile_of, layout_count}
 use Rattle.rules.specs.declared.Column.{Column}
-use Rattle.rules.specs.declared.SetHeading.{SetHeading}
 use Rattle.rules.specs.Headings.{Heading}
 use Rattle.rules.specs.Faults.{Groups, right_words}
 use Rattle.rules.specs.Checking.{line_of, present_of, check_from}
 use Rattle.answers.specs.Layouts.{per_layout}
-use Rattle.answers.specs.Matching.{members, column_matches, rule_matches}
+use Rattle.answers.specs.Matching.{members, rule_matches}
 use Rattle.bitsets.specs.Sets.{is_in}
 use Rattle.bitsets.proofs.Bits.{in_none}
 use Rattle.rules.specs.Held.{column_by, heading_by, SetSized}
@@ -35,11 +34,10 @@ use Rattle.judging.specs.declared.RuleLine.TheVariants as line
 use Rattle.judging.specs.Lines.{RuleLineRead, LineRefused, RuleLineOf}
 use Rattle.reading.specs.declared.OpenSet.{OpenSet}
 use Rattle.reading.specs.declared.LeftWords.{LeftWords}
-use Rattle.reading.specs.declared.Sought.{Sought}
 use Rattle.reading.specs.declared.Sought.TheVariants as sought
 use Rattle.reading.specs.Owed.{Kept, owed}
-use Rattle.reading.specs.Left.{asked, Answers, AskedAt, LeftHeld}
-use Rattle.reading.specs.Seeking.{SetOpen, PlaceAt, PassedOver, RuleFound, SoughtAt, SoughtOf, Seeks}
+use Rattle.reading.specs.Left.{asked, Answers, LeftHeld}
+use Rattle.reading.specs.Seeking.{SetOpen, PassedOver, Seeks}
 use Rattle.reading.proofs.RuleLines.{line_short, line_faults_lem, line_count, owed_blank, owed_miss, owed_keep, owed_fire}
 
 -- the columns of a heading can be asked at a layout

@@ -1,35 +1,29 @@
 -- The heading of a set: refused, or the set is opened.
-use Prim.Native.Nat.{ℕ, ◌+◌, ◌≤◌, ◌<◌}
+use Prim.Native.Nat.{ℕ}
 use native.Mathlib.Omega.{arith}
 use mathlib.Core.Path.{◌≡◌, refl, sym, ap, ◌∙◌}
-use mathlib.Core.List.{List, [], ◌∷◌, ◌++◌}
-use mathlib.Core.Bool.{Bool, true, false}
-use lib.ListN.{length, get_or, take}
+use mathlib.Core.List.{List, ◌∷◌, ◌++◌}
+use mathlib.Core.Bool.{true}
 use Rattle.text.specs.Bytes.{Text}
 use Rattle.text.specs.Lines.{Line}
-use Rattle.text.specs.Reading.{left, ahead, follow}
+use Rattle.text.specs.Reading.{left, follow}
 use Rattle.text.proofs.Lists.{no}
 use Rattle.profile.specs.Profile.{Texts, profile_of}
-use Rattle.rules.specs.declared.SetHeading.{SetHeading}
-use Rattle.rules.specs.Entries.{wrong, set as set_of, entry_of}
-use Rattle.rules.specs.Sections.{applies}
-use Rattle.rules.specs.Checking.{line_of, present_of, check_from}
+use Rattle.rules.specs.Entries.{set as set_of, entry_of}
+use Rattle.rules.specs.Checking.{line_of}
 use Rattle.rules.proofs.CheckSteps.{entry_any}
 use Rattle.answers.specs.Matching.{members}
-use Rattle.firing.specs.declared.Cursors.{Cursors}
 use Rattle.firing.specs.Writing.{run_buf, run_cur}
-use Rattle.rules.specs.Held.{heading_by, SetSized, FromOne}
+use Rattle.rules.specs.Held.{heading_by}
 use Rattle.judging.specs.declared.SetLine.{SetLine}
 use Rattle.judging.specs.Sets.{SetLineOf}
-use Rattle.answers.specs.Firings.{head_fires}
 use Rattle.reading.specs.declared.OpenSet.{OpenSet}
 use Rattle.reading.specs.declared.Reading.{Reading}
 use Rattle.reading.specs.Order.{rules_from, firings_from}
 use Rattle.reading.specs.Owed.{Kept, set_owes, owed}
-use Rattle.reading.specs.Keeping.{KeptPlaces}
-use Rattle.reading.specs.Opening.{closed_set, Opened}
-use Rattle.reading.specs.States.{names_of, Sound, ReadTo}
-use Rattle.reading.specs.Steps.{Stepped, stopped_at, next_at}
+use Rattle.reading.specs.Opening.{Opened}
+use Rattle.reading.specs.States.{names_of}
+use Rattle.reading.specs.Steps.{stopped_at, next_at}
 use Rattle.reading.specs.Heads.{AtHeading, SetRead}
 use Rattle.reading.proofs.HeadLines.{fires_set, faults_wrong, faults_set}
 use Rattle.reading.proofs.Stepping.{heading_first, owed_closed}

@@ -1,22 +1,21 @@
 -- One step of a reading: one law for each way through it.
-use Prim.Native.Nat.{ℕ, ◌+◌, ◌*◌, ◌-◌, ◌≤◌, ◌<◌}
+use Prim.Native.Nat.{ℕ, ◌+◌, ◌≤◌, ◌<◌}
 use native.Mathlib.Omega.{arith}
 use mathlib.Core.Path.{◌≡◌, refl, sym, ap, ◌∙◌}
 use mathlib.Core.List.{List, [], ◌∷◌, ◌++◌}
 use mathlib.Core.Bool.{Bool, true, false, not, ◌&&◌, cond}
 use lib.ListN.{length, get_or, take, drop}
-use Rattle.text.specs.Bytes.{Text, Words}
+use Rattle.text.specs.Bytes.{Text}
 use Rattle.text.specs.Lines.{Line}
-use Rattle.text.specs.Refusals.{first_refusal}
 use Rattle.text.specs.Reading.{left, ahead, follow, Opens}
 use Rattle.text.proofs.Lists.{no}
 use Rattle.text.proofs.Readers.{line_at, line_first}
-use Rattle.profile.specs.Profile.{Texts, profile_of, layout_count}
+use Rattle.profile.specs.Profile.{Texts, profile_of}
 use Rattle.profile.specs.Places.{profile_at}
 use Rattle.rules.specs.declared.Present.{Present}
 use Rattle.rules.specs.declared.SetHeading.{SetHeading}
 use Rattle.rules.specs.Sections.{Rule}
-use Rattle.rules.specs.Faults.{Groups, right_words, line_faults}
+use Rattle.rules.specs.Faults.{Groups, right_words}
 use Rattle.rules.specs.Checking.{line_of, check_from}
 use Rattle.answers.specs.Matching.{members}
 use Rattle.answers.specs.Firings.{Firing, file_firings}
@@ -26,17 +25,17 @@ use Rattle.firing.specs.Writing.{Low, run_buf, run_cur}
 use Rattle.firing.specs.Line.{Fires}
 use Rattle.firing.proofs.Written.{buf_append, cur_append, length_run, run_buf_nil, run_cur_nil}
 use Rattle.firing.proofs.Going.{low_run}
-use Rattle.rules.specs.Held.{heading_by, SetSized}
+use Rattle.rules.specs.Held.{heading_by}
 use Rattle.reading.specs.declared.OpenSet.{OpenSet}
 use Rattle.reading.specs.declared.Reading.{Reading}
 use Rattle.reading.specs.declared.Sought.TheVariants as sought
 use Rattle.reading.specs.Order.{rules_from, firings_from}
-use Rattle.reading.specs.Owed.{Kept, wanting, keeping, layouts_in, set_owes, owed, kept_fires}
-use Rattle.reading.specs.Seeking.{SetOpen, Without, PlaceAt, PassedOver, RuleFound, Seeks}
-use Rattle.reading.specs.Keeping.{most_places, Noted, KeptPlaces, place_fires, KeptFired}
+use Rattle.reading.specs.Owed.{Kept, wanting, keeping, owed, kept_fires}
+use Rattle.reading.specs.Seeking.{SetOpen, Without, RuleFound, Seeks}
+use Rattle.reading.specs.Keeping.{most_places, Noted, KeptPlaces, KeptFired}
 use Rattle.reading.specs.Opening.{closed_set}
-use Rattle.reading.specs.States.{names_of, Sound, Writes, ReadTo, RefusedAt, ReadAll}
-use Rattle.reading.specs.Steps.{Leads, Stepped, stopped_at, closed_at, ended, next_at}
+use Rattle.reading.specs.States.{names_of, Sound, ReadTo}
+use Rattle.reading.specs.Steps.{Stepped, stopped_at, closed_at, ended, next_at}
 use Rattle.reading.proofs.Keeps.{fires_on}
 use Rattle.reading.proofs.Opens.{owes_nothing}
 use Rattle.reading.proofs.HeadLines.{owed_end, owed_close}

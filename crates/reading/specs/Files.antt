@@ -1,5 +1,5 @@
 -- A file read for a profile that is compiled into the names.
-use Rattle.std.specs.Prelude.{ℕ, ◌+◌, ◌*◌, ◌≤◌, ◌≡◌, List, [], Bool, true, false, length, take, replicate}
+use Rattle.std.specs.Prelude.{ℕ, ◌+◌, ◌*◌, ◌≤◌, ◌≡◌, List, [], Bool, true, length, take, replicate}
 use Rattle.text.specs.Limits.{most_groups, longest_word}
 use Rattle.text.specs.Bytes.{Text}
 use Rattle.text.specs.Refusals.{first_refusal}

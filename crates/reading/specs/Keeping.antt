@@ -1,5 +1,5 @@
 -- The rule that is kept for each layout, by the place behind its left words; and these rules fired.
-use Rattle.std.specs.Prelude.{ℕ, ◌+◌, ◌≤◌, ◌<◌, ◌≡◌, List, [], true, false, cond, length, get_or, drop}
+use Rattle.std.specs.Prelude.{ℕ, ◌+◌, ◌≤◌, ◌<◌, ◌≡◌, List, [], false, cond, length, get_or, drop}
 use Rattle.text.specs.Bytes.{Text, concat_map}
 use Rattle.text.specs.Reading.{left}
 use Rattle.profile.specs.Profile.{Profile}

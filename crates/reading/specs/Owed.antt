@@ -1,5 +1,5 @@
 -- What is still to fire at a line: of the set that is being read, and of all that follows.
-use Rattle.std.specs.Prelude.{ℕ, ◌+◌, ◌≤◌, ◌<◌, ◌≡◌, List, [], ◌∷◌, ◌++◌, Bool, true, false, cond}
+use Rattle.std.specs.Prelude.{ℕ, ◌+◌, ◌≤◌, ◌<◌, ◌≡◌, List, [], ◌++◌, true, cond}
 use Rattle.text.specs.Bytes.{Text, Words, concat_map}
 use Rattle.text.specs.Lines.{Line}
 use Rattle.profile.specs.Profile.{Profile}

@@ -1,6 +1,5 @@
 -- How far a reading has come.
-use Rattle.std.specs.Prelude.{ℕ, ◌+◌, ◌*◌, ◌-◌, ◌≤◌, ◌<◌, ◌≡◌, List, [], map, Bool, true, false, length, get_or, take, drop}
-use Rattle.text.specs.declared.Refusal.{Refusal}
+use Rattle.std.specs.Prelude.{ℕ, ◌+◌, ◌*◌, ◌-◌, ◌≤◌, ◌<◌, ◌≡◌, List, [], map, Bool, false, length, get_or, take, drop}
 use Rattle.text.specs.Limits.{most_groups, longest_word}
 use Rattle.text.specs.Bytes.{Text}
 use Rattle.text.specs.Refusals.{first_refusal}
@@ -11,7 +10,7 @@ use Rattle.rules.specs.Faults.{Group, Groups, right_words, line_faults}
 use Rattle.rules.specs.Checking.{check_from}
 use Rattle.bitsets.specs.Sets.{is_in}
 use Rattle.firing.specs.declared.Cursors.{Cursors}
-use Rattle.firing.specs.Writing.{Low, run_buf, run_cur}
+use Rattle.firing.specs.Writing.{run_buf, run_cur}
 use Rattle.firing.specs.Line.{Fires}
 use Rattle.rules.specs.Held.{heading_by}
 use Rattle.names.specs.Compiled.{Tables}

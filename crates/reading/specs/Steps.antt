@@ -1,15 +1,11 @@
 -- One step of a reading.
-use Rattle.std.specs.Prelude.{ℕ, ◌+◌, ◌≤◌, ◌<◌, ◌≡◌, List, [], Bool, true, false, length, get_or}
+use Rattle.std.specs.Prelude.{ℕ, ◌<◌, ◌≡◌, List, Bool, true, false, length}
 use Rattle.text.specs.Bytes.{Text}
-use Rattle.text.specs.Reading.{Opens}
 use Rattle.profile.specs.Profile.{Texts}
 use Rattle.firing.specs.declared.Cursors.{Cursors}
 use Rattle.reading.specs.declared.OpenSet.{OpenSet}
 use Rattle.reading.specs.declared.Reading.{Reading}
-use Rattle.reading.specs.Owed.{wanting}
 use Rattle.reading.specs.Opening.{closed_set}
-use Rattle.reading.specs.Keeping.{Noted}
-use Rattle.reading.specs.Seeking.{Without}
 use Rattle.reading.specs.States.{Sound, ReadTo, RefusedAt, ReadAll}
 
 -- what a step leads to, for a profile: a refusal, more to read, or the end

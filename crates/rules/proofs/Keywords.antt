@@ -1,5 +1,5 @@
 -- Each of the thirteen words of a set heading is recognised exactly where its own bytes stand.
-use Prim.Native.Nat.{ℕ, zero, suc, ◌<◌}
+use Prim.Native.Nat.{ℕ, ◌<◌}
 use native.Mathlib.Omega.{arith}
 use mathlib.Core.Path.{◌≡◌, refl, sym, ap, ◌∙◌}
 use mathlib.Core.List.{List, [], ◌∷◌, ◌++◌}
@@ -13,7 +13,7 @@ use Rattle.rules.specs.declared.Index.TheVariants as index
 use Rattle.rules.specs.declared.Item.{Item}
 use Rattle.rules.specs.declared.Item.TheVariants as item
 use Rattle.rules.specs.Headings.{decimal, up_from, numbered_in, index_of, left_item, component_of}
-use Rattle.rules.specs.Keywords.{Keyword, keywords, Just, Before, Exactly, AllExact}
+use Rattle.rules.specs.Keywords.{keywords, Just, Before, Exactly, AllExact}
 
 -- the choice k was made by its own test
 

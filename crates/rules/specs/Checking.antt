@@ -1,5 +1,5 @@
 -- The lines of a file, judged one by one: what is carried from line to line are the names of the groups so far, and the present heading.
-use Rattle.std.specs.Prelude.{ℕ, ◌+◌, List, [], ◌∷◌, ◌++◌, Bool, ◌||◌, cond, length, eqb, leb}
+use Rattle.std.specs.Prelude.{ℕ, List, [], ◌∷◌, ◌++◌, Bool, ◌||◌, cond, length, eqb, leb}
 use Rattle.text.specs.declared.Refusal.{Refusal}
 use Rattle.text.specs.Limits.{most_groups}
 use Rattle.text.specs.Bytes.{Text, Words, same, all_of, any_of}

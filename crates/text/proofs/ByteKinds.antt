@@ -1,5 +1,5 @@
 -- What the kinds of bytes mean for the marks.
-use Prim.Native.Nat.{ℕ, ◌-◌, ◌≤◌}
+use Prim.Native.Nat.{ℕ, ◌≤◌}
 use native.Mathlib.Omega.{arith}
 use mathlib.Core.Path.{◌≡◌, refl, sym, ◌∙◌}
 use mathlib.Core.Logic.{◌⊎◌, inl, inr, ⊎_elim}
@@ -8,7 +8,7 @@ use borrow.Author.Tests.{ne_eqb, eqb-true, eqb-false, ltb-false, le-leb, leb-tru
 use lib.Dec.{eqb, ltb, leb}
 use Rattle.text.specs.declared.Class.TheVariants.{Blank, Join, Slashes, Bang, Other}
 use Rattle.text.specs.declared.Place.TheVariants.{Space, Word}
-use Rattle.text.specs.Marks.{ends_line, class_of, char, join, at_other}
+use Rattle.text.specs.Marks.{ends_line, class_of, char, at_other}
 use Rattle.text.specs.Words.{bad_byte}
 use Rattle.text.specs.Reading.{wordly, in_word, kind_of, begins_plain, ends_plain}
 use Rattle.text.proofs.Lists.{no}

@@ -17,7 +17,6 @@ use Rattle.text.specs.Bytes.{first}
 use Rattle.text.specs.Marks.{ends_line, Mark, gap, join, at_feed, at_other, marks}
 use Rattle.text.specs.Lines.{words, heading, lines_of}
 use Rattle.text.specs.Reading.{feed_end, join_end, slash_before}
-use Rattle.text.proofs.Lists.{no, and_both}
 use Rattle.text.proofs.Positions.{first_drop, marks_at, step_other, step_feed, lines_gap, lines_join}
 use Rattle.text.proofs.ByteKinds.{ends_cases, ends_not, differ, return_class}
 

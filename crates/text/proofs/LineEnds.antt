@@ -1,10 +1,10 @@
 -- A file without any CR, with every LF then made CR LF, has the same lines.
 use Prim.Native.Nat.{ℕ, ◌+◌}
 use native.Mathlib.Nat.{add-zero}
-use mathlib.Core.Path.{◌≡◌, refl, sym, ap, ◌∙◌}
+use mathlib.Core.Path.{◌≡◌, refl}
 use mathlib.Core.List.{List, [], ◌∷◌}
-use mathlib.Core.Bool.{Bool, true, false, not, ◌||◌, ◌&&◌, cond}
-use borrow.Author.Tests.{eqb-true, eqb-false, ne_eqb, not-true}
+use mathlib.Core.Bool.{Bool, true, false, ◌||◌, ◌&&◌, cond}
+use borrow.Author.Tests.{eqb-true, eqb-false, not-true}
 use lib.Dec.{eqb}
 use Rattle.text.specs.declared.Class.{Class}
 use Rattle.text.specs.declared.Class.TheVariants.{Blank, Join, Slashes, Bang, Other}
@@ -13,7 +13,7 @@ use Rattle.text.specs.declared.Place.TheVariants.{Start, Space, Word, Comment, J
 use Rattle.text.specs.Bytes.{first, rest, any_of}
 use Rattle.text.specs.Marks.{ends_line, class_of, Mark, char, gap, join, bang, end, at_feed, at_other, step, marks}
 use Rattle.text.specs.Lines.{run, words, heading, feeds, inside, lines_of, lines, closed_from, closed, crlf, no_return}
-use Rattle.text.proofs.Lists.{no, neither}
+use Rattle.text.proofs.Lists.{neither}
 use Rattle.text.proofs.ByteKinds.{ends_not}
 
 -- the marks with a blank before each line end

@@ -3,7 +3,7 @@ use Prim.Native.Nat.{ℕ, zero, suc, ◌+◌, ◌-◌, ◌≤◌, ◌<◌}
 use native.Mathlib.Omega.{arith}
 use mathlib.Core.Path.{◌≡◌, refl, sym, ap, ◌∙◌}
 use mathlib.Core.List.{List, ◌∷◌}
-use mathlib.Core.Logic.{◌⊎◌, ⊎_elim}
+use mathlib.Core.Logic.{⊎_elim}
 use mathlib.Core.Bool.{Bool, true, false, cond}
 use lib.Dec.{eqb, ltb}
 use lib.ListN.{length, get_or, drop}
@@ -17,7 +17,7 @@ use Rattle.text.specs.Marks.{ends_line, class_of, Mark, end, at_feed, at_other, 
 use Rattle.text.specs.Lines.{lines_of}
 use Rattle.text.specs.Reading.{ahead, follow, join_end, slash_before, Fenced, FirstFeed, Passed, FoundWord, NoWord}
 use Rattle.text.proofs.Lists.{no}
-use Rattle.text.proofs.Positions.{first_drop, marks_at, step_other, step_feed, lines_char, lines_gap, lines_end}
+use Rattle.text.proofs.Positions.{marks_at, step_other, step_feed, lines_char, lines_gap, lines_end}
 use Rattle.text.proofs.ByteKinds.{differ}
 use Rattle.text.proofs.Feeds.{JoinAt, join_at, join_none, slash_join}
 use Rattle.text.proofs.Readers.{fence_more}

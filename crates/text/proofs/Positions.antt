@@ -16,7 +16,7 @@ use Rattle.text.specs.declared.Place.{Place}
 use Rattle.text.specs.declared.Place.TheVariants.{Space, Word, Comment}
 use Rattle.text.specs.Bytes.{first, rest, part, any_of}
 use Rattle.text.specs.Marks.{class_of, Mark, char, gap, join, bang, end, at_feed, at_other, step, marks}
-use Rattle.text.specs.Lines.{run, words, feeds, inside, lines_of, lines}
+use Rattle.text.specs.Lines.{run, words, feeds, inside, lines_of}
 use Rattle.text.specs.Words.{bad_byte}
 use Rattle.text.specs.Reading.{left, wordly, in_word, ahead, WordEnd, InWord}
 use Rattle.text.proofs.Lists.{no, any_nil, any_cons}

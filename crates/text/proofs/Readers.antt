@@ -3,15 +3,15 @@ use Prim.Native.Nat.{ℕ, zero, suc, min, ◌+◌, ◌-◌, ◌≤◌, ◌<◌}
 use native.Mathlib.Omega.{arith}
 use mathlib.Core.Path.{◌≡◌, refl, sym, ◌∙◌}
 use mathlib.Core.List.{List, [], ◌∷◌, ◌++◌}
-use mathlib.Core.Logic.{◌⊎◌, ⊎_elim}
-use mathlib.Core.Bool.{Bool, true, false, not, ◌||◌, ◌&&◌, cond}
+use mathlib.Core.Logic.{⊎_elim}
+use mathlib.Core.Bool.{Bool, true, false, ◌||◌, ◌&&◌, cond}
 use borrow.Author.Tests.{eq-eqb, eqb-true, eqb-false, ltb-true, ltb-false, lt-ltb, le-ltb, le-leb}
 use lib.Dec.{eqb, ltb, leb}
 use lib.ListN.{length, get_or, drop, length-drop, drop_of_length-le}
 use lib.Seq.{get_or-drop}
 use Rattle.text.specs.declared.Class.TheVariants.{Blank, Join, Slashes, Bang, Other}
 use Rattle.text.specs.declared.Place.{Place}
-use Rattle.text.specs.declared.Place.TheVariants.{Start, Space, Word, Comment, JoinStart, JoinSpace}
+use Rattle.text.specs.declared.Place.TheVariants.{Start, Space, Comment}
 use Rattle.text.specs.declared.Next.{Next}
 use Rattle.text.specs.declared.Next.TheVariants.{Found, Stop}
 use Rattle.text.specs.declared.Fast.{Fast}
@@ -20,11 +20,11 @@ use Rattle.text.specs.declared.Plain.{Plain as PlainRead}
 use Rattle.text.specs.declared.Plain.TheVariants as plain
 use Rattle.text.specs.Bytes.{Words, first, part, all_of, any_of}
 use Rattle.text.specs.Marks.{ends_line, class_of, Mark, char, gap, join, bang, end, at_feed, at_other, step, marks}
-use Rattle.text.specs.Lines.{run, words, heading, Line, inside, lines_of, lines}
+use Rattle.text.specs.Lines.{run, words, heading, Line, lines_of}
 use Rattle.text.specs.Words.{bad_byte, too_long, words_fault}
-use Rattle.text.specs.Reading.{left, ahead, follow, fault_of, lower, level_of, kind_of, ends_plain, feed_end, join_end, slash_before, Fenced, WordEnd, InWord, PlainEnd, RunEnd, OddWord, CommentEnd, Blanks, Skipped, FoundWord, NoWord, Between, FastWord, PlainFound, PlainWord, ValueWord, ByteWord, NextWord, Opens}
+use Rattle.text.specs.Reading.{left, ahead, follow, fault_of, lower, level_of, kind_of, ends_plain, feed_end, join_end, Fenced, WordEnd, InWord, PlainEnd, RunEnd, OddWord, CommentEnd, Blanks, Skipped, FoundWord, NoWord, Between, FastWord, PlainFound, PlainWord, ValueWord, ByteWord, NextWord, Opens}
 use Rattle.text.proofs.Lists.{no, and_both, any_nil, any_cons}
-use Rattle.text.proofs.Positions.{first_drop, part_empty, part_cons, part_snoc, in_word_start, in_word_more, in_word_over, marks_at, step_other, step_feed, comment_words, first_in, length_part, lines_char, lines_gap, lines_bang, lines_join, lines_end, lines_nil}
+use Rattle.text.proofs.Positions.{first_drop, part_empty, part_cons, part_snoc, in_word_start, in_word_more, in_word_over, marks_at, step_other, step_feed, comment_words, first_in, length_part, lines_char, lines_gap, lines_bang, lines_end, lines_nil}
 use Rattle.text.proofs.ByteKinds.{not_bad, plain_in_word, kind_one, plain_stop, low_ends, ends_bad, ends_no, ends_feed, Begins, begins_char, kind_zero, join_class, note_class, bang_class, return_class, differ}
 use Rattle.text.proofs.Feeds.{FeedAt, feed_none, JoinAt, join_none, join_ends, joined_start, joined_space, slash_join, slash_drop}
 

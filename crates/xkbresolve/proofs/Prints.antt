@@ -12,7 +12,7 @@ use Rattle.text.specs.Bytes.{Text, bytes}
 use Rattle.output.specs.Store.{farthest, past, Wrote}
 use Rattle.output.proofs.Stores.{take_stored, wrote_then}
 use Rattle.values.proofs.Writes.{wrote_long}
-use Rattle.answers.specs.Answer.{sum, total, refused, accepted, lengths_of, buffer_after, stretch}
+use Rattle.answers.specs.Answer.{sum, total, accepted, lengths_of, buffer_after, stretch}
 use Rattle.answers.proofs.Stretch.{stretch_texts}
 use Rattle.xkbresolve.specs.Program.{digits, in_decimal, refusal_line, names, component_line, component_lines, stretch_lines}
 

@@ -1,12 +1,11 @@
 -- Number and place, read back from the one number that C is given.
-use Prim.Native.Nat.{ℕ, ◌+◌, ◌*◌, ◌/◌, ◌%◌, ◌^◌, ◌≤◌, ◌<◌}
+use Prim.Native.Nat.{ℕ, ◌+◌, ◌*◌, ◌/◌, ◌%◌, ◌^◌, ◌≤◌}
 use native.Mathlib.Omega.{arith}
-use mathlib.Core.Path.{◌≡◌, refl, sym, ap, ◌∙◌}
+use mathlib.Core.Path.{◌≡◌, refl, ap}
 use mathlib.Core.Bool.{Bool, true, false}
 use lib.Dec.{ltb}
 use borrow.Author.Tests.{ltb-true, ltb-false}
 use Rattle.text.specs.Bytes.{Text}
-use Rattle.text.specs.declared.Refusal.{Refusal}
 use Rattle.profile.specs.Profile.{Texts}
 use Rattle.answers.specs.Answer.{Answer, refused, accepted, answer, number_of, place_of}
 use Rattle.answers.proofs.Places.{place_low}

@@ -1,5 +1,5 @@
 use mathlib.Core.Path.{sym, ◌∙◌}
-use Rattle.profile.proofs.Refused.{Clear, refused_model, refused_layouts, refused_variants, refused_options, refused_count, refused_more, refused_many, refused_none}
+use Rattle.profile.proofs.Refused.{refused_model, refused_layouts, refused_variants, refused_options, refused_count, refused_more, refused_many, refused_none}
 use Rattle.profile.proofs.check.Goals as goal
 
 pub returns-then-bad_model : goal.returns-then-bad_model

@@ -1,4 +1,3 @@
-use borrow.Author.Rules.{rules}
 use Rattle.profile.specs.Profile.{texts_of}
 use Rattle.resolver.proofs.Resolves.{buffer_kept}
 use Rattle.xkbrules.proofs.Ways.{packs, way_refused, way_short, way_accepted}

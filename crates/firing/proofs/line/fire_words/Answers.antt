@@ -1,5 +1,4 @@
-use mathlib.Core.Path.{refl, sym, ◌∙◌}
-use lib.ListN.{length-map}
+use mathlib.Core.Path.{refl, ◌∙◌}
 use native.Mathlib.Omega.{arith}
 use Rattle.text.specs.Bytes.{part}
 use Rattle.text.proofs.Readers.{found, stopped}
@@ -46,11 +45,11 @@ loop-j-smaller c =
 pub loop-j-preserved : goal.loop-j-preserved
 unfolding part
 loop-j-preserved c = (
-      words_more _ _ _ _ _ _ _ _ _ _ _ _ _ c.loop-j.invariant.0 _ _ _ _ (found _ _ _ _ _ _ _ _ c.in-Found.is c.word_at.ensures) (omega arith)
-          (omega (arith, c.requires.1.all, c.requires.1.few)) _ _ c.fire_value-m.ensures.0,
-      c.fire_value-m.ensures.1 ∙ c.loop-j.invariant.1,
-      c.fire_value-m.auto.buf ∙ c.loop-j.invariant.2,
-    )
+  words_more _ _ _ _ _ _ _ _ _ _ _ _ _ c.loop-j.invariant.0 _ _ _ _ (found _ _ _ _ _ _ _ _ c.in-Found.is c.word_at.ensures) (omega arith)
+      (omega (arith, c.requires.1.all, c.requires.1.few)) _ _ c.fire_value-m.ensures.0,
+  c.fire_value-m.ensures.1 ∙ c.loop-j.invariant.1,
+  c.fire_value-m.auto.buf ∙ c.loop-j.invariant.2,
+)
 
 pub returns-in-Stop : goal.returns-in-Stop
 returns-in-Stop c =

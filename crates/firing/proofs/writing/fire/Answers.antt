@@ -1,8 +1,5 @@
-use borrow.Author.Tests.{not-true, not-false}
+use borrow.Author.Tests.{not-true}
 use native.Mathlib.Omega.{arith}
-use mathlib.Core.Logic.{⊎_elim}
-use mathlib.Core.Path.{sym, ◌∙◌}
-use Rattle.text.proofs.Lists.{no}
 use Rattle.firing.specs.Writing.{based_at}
 use Rattle.firing.proofs.Regions.{low_at}
 use Rattle.firing.proofs.Going.{fire_over, fire_nothing, fire_add, fire_skip, fire_base, region_low, moves_on, put_moved}

@@ -3,11 +3,9 @@ use Rattle.names.proofs.Searching.{sieve_none}
 use borrow.Author.Rules.{rules}
 use Rattle.names.proofs.search.sieve_of.Goals as goal
 
--- src/search.rt:22:9
 pub returns-then-n-eq0 : goal.returns-then-n-eq0
 returns-then-n-eq0 c = sieve_none _ c.if-n-eq0.true
 
--- src/search.rt:17:1
 pub returns : goal.returns
 unfolding sieve_of
 returns c = search rules

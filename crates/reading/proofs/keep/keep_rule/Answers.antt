@@ -5,18 +5,14 @@ use mathlib.Core.Path.{sym, ◌∙◌}
 use Rattle.reading.proofs.Keeps.{noted_start, noted_hit, noted_miss, noted_end}
 use Rattle.reading.proofs.keep.keep_rule.Goals as goal
 
--- src/keep.rt:24:5
 pub loop-k-init : goal.loop-k-init
 loop-k-init c = (search rules, search rules, noted_start _ _ _ _ (search rules))
 
--- src/keep.rt:24:5
 pub loop-k-preserved-then-contains : goal.loop-k-preserved-then-contains
 loop-k-preserved-then-contains c = (search rules, search rules, noted_hit _ _ _ _ _ _ c.loop-k.invariant.2 (omega arith) (sym c.contains.ensures ∙ c.if-contains.true))
 
--- src/keep.rt:24:5
 pub loop-k-preserved : goal.loop-k-preserved
 loop-k-preserved c = (search rules, search rules, noted_miss _ _ _ _ _ _ c.loop-k.invariant.2 (sym c.contains.ensures ∙ c.if-contains.false))
 
--- src/keep.rt:18:1
 pub returns : goal.returns
 returns c = noted_end _ _ _ _ _ _ c.loop-k.invariant.2 _ c.loop-k-test.false

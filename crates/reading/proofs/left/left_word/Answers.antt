@@ -5,19 +5,15 @@ use Rattle.text.proofs.Readers.{found, stopped}
 use Rattle.reading.proofs.LeftHolds.{held_word, held_none}
 use Rattle.reading.proofs.left.left_word.Goals as goal
 
--- src/left.rt:68:30
 pub slice_bounds-row_of-count : goal.slice_bounds-row_of-count
 slice_bounds-row_of-count c = let u = found _ _ _ _ _ _ _ _ c.in-Found.is c.word_at.ensures in omega (arith, u.some)
 
--- src/left.rt:68:30
 pub slice_bounds-row_of-start : goal.slice_bounds-row_of-start
 slice_bounds-row_of-start c = let u = found _ _ _ _ _ _ _ _ c.in-Found.is c.word_at.ensures in omega (arith, u.some)
 
--- src/left.rt:68:30
 pub slice_bounds-row_of-end : goal.slice_bounds-row_of-end
 slice_bounds-row_of-end c = let u = found _ _ _ _ _ _ _ _ c.in-Found.is c.word_at.ensures in u.high
 
--- src/left.rt:46:1
 pub returns-in-Found : goal.returns-in-Found
 unfolding part
 returns-in-Found c =
@@ -25,7 +21,6 @@ returns-in-Found c =
     (found _ _ _ _ _ _ _ _ c.in-Found.is c.word_at.ensures)
     c.row_of-row.ensures c.narrow.ensures
 
--- src/left.rt:46:1
 pub returns-in-Stop : goal.returns-in-Stop
 returns-in-Stop c =
     held_none _ _ _ _ _ _ _ _ _ _ c.requires.0.high c.requires.0.few
