@@ -25,17 +25,17 @@ SONAME = libxkbrules.so.$(firstword $(subst ., ,$(VERSION)))
 SHARED = target/libxkbrules.so.$(VERSION)
 
 all:
-	rt check
-	rt staticlib xkbrules
+	rt all check
+	tools/archive
 	$(MAKE) --no-print-directory $(TOOL)
 	$(COMPILE) -o target/seat examples/seat.c $(LIB)
 	$(COMPILE) -o target/card examples/card.c $(LIB)
-	target/bin/xkbresolve < crates/xkbresolve/stdin
+	tools/program
 	tail -n +5 crates/xkbresolve/stdin | target/seat /dev/stdin pc us,fr ,bepo ctrl:nocaps
 
 # Only where it is not there, so that an install proves nothing anew; after a change of the crates it is `make` that makes it.
 $(LIB):
-	rt staticlib xkbrules
+	tools/archive
 
 $(TOOL): $(TOOL_SOURCES) tools/tool.h $(HEADERS) $(LIB)
 	$(COMPILE) -o $@ $(TOOL_SOURCES) $(LIB)
@@ -51,7 +51,7 @@ test:
 
 stock:
 	test -e $(STOCK)/evdev || { apt-get update && apt-get install -y xkb-data; }
-	rt staticlib xkbrules
+	tools/archive
 	bash tests/compare/run stock $(STOCK)/evdev $(STOCK)/evdev.lst
 	bash tests/compare/run stock $(STOCK)/base $(STOCK)/base.lst
 
@@ -87,7 +87,7 @@ clean:
 # What a resolve costs, on Debian's stock rules files and on hard ones: docs/PERFORMANCE.md.
 bench-needs:
 	{ test -e $(STOCK)/base && command -v valgrind > /dev/null; } || { apt-get update && apt-get install -y xkb-data valgrind; }
-	rt staticlib xkbrules
+	tools/archive
 
 # The stock files and the ten worst of the hard ones.
 bench: bench-needs

@@ -38,7 +38,7 @@ def files(ends):
 
 
 def of_function(path):
-    return path.endswith(("Proof.antt", "Answers.antt", "Invariants.antt"))
+    return "/proofs/" in path and len(path.split(os.sep)) > 4
 
 
 def snake(name):
@@ -81,6 +81,18 @@ def found():
                 if wants(m.group(2)):
                     names.add(m.group(2))
     return names, fields, where
+
+
+def also():
+    """Names that `use` lines give, and the parameters of statements."""
+    out = {"accepted-second", "room-a", "room-b"}
+    for p in files((".antt", ".rt")):
+        if of_function(p):
+            continue
+        for line in open(p, encoding="utf-8"):
+            if re.match(r"^\s*(?:ghost )?use ", line):
+                out |= {w for w in re.findall(r" as ([^\s,};]+)", line) if wants(w)}
+    return out
 
 
 def foreign():
@@ -145,6 +157,7 @@ def sub(piece, shift, f, plain=False):
 
 def main():
     names, fields, where = found()
+    names |= also()
     theirs = foreign()
     both = {n for n in names if n in theirs}
     print("names of the kit too, left:", sorted(both))

@@ -76,16 +76,16 @@ length_names : (gs : List Group) → length (map (λ g. g.name) gs) ≡ length g
 length_names [] = refl
 length_names (g ∷ gs) = rw (length_names gs)
 
-module _ (a b : Text) (t : Texts) (room-a room-b room : ℕ) (xs ys : List Text)
-    (acc-a : answer room-a a t ≡ accepted xs) (acc-b : answer room-b b t ≡ accepted ys)
+module _ (a b : Text) (t : Texts) (room_a room_b room : ℕ) (xs ys : List Text)
+    (acc-a : answer room_a a t ≡ accepted xs) (acc-b : answer room_b b t ≡ accepted ys)
     (end : closed a ≡ true) (names : apart (names_of b) (defines_of a) ≡ true) where
-  first_a : (refusals room-a a t ≡ []) × (ten_texts a t ≡ xs)
+  first_a : (refusals room_a a t ≡ []) × (ten_texts a t ≡ xs)
   unfolding answer
-  first_a = accepted_first (refusals room-a a t) (ten_texts a t) xs acc-a
+  first_a = accepted_first (refusals room_a a t) (ten_texts a t) xs acc-a
 
-  first_b : (refusals room-b b t ≡ []) × (ten_texts b t ≡ ys)
+  first_b : (refusals room_b b t ≡ []) × (ten_texts b t ≡ ys)
   unfolding answer
-  first_b = accepted_first (refusals room-b b t) (ten_texts b t) ys acc-b
+  first_b = accepted_first (refusals room_b b t) (ten_texts b t) ys acc-b
 
   lines_a : line_faults a ≡ []
   unfolding refusals file_refusals

@@ -3,8 +3,8 @@ use Rattle.std.specs.Prelude.{ℕ, min, ◌+◌, ◌≤◌, ◌<◌, ◌≡◌, 
 use Rattle.text.specs.Bytes.{Text, Words, rest, part, all_of}
 use Rattle.text.specs.Words.{words_fault}
 use Rattle.text.specs.Reading.{left, ahead, follow, fault_of, FoundWord, Passed}
-use Rattle.rules.specs.Words.{has_dollar, ordinary as ordinaryWord}
-use Rattle.rules.specs.Entries.{wrong as wrongAs, group, entry_of}
+use Rattle.rules.specs.Words.{has_dollar, ordinary as ordinary_word}
+use Rattle.rules.specs.Entries.{wrong as wrong_as, group, entry_of}
 use Rattle.rules.specs.Checking.{line_of}
 use Rattle.names.specs.Compiled.{Joined}
 use Rattle.judging.specs.declared.FirstWord.{FirstWord}
@@ -28,7 +28,7 @@ pub record DollarWord (s : Text) (x : FirstWord) : Type 0 where
 -- the words from `at` on, in the physical line n
 pub record MembersOf (s : Text) (at n : ℕ) (d : Text) (t rows : List ℕ) (flags : List Bool) (count : ℕ) (r : Members) : Type 0 where
   pub fault : r.fault ≡ words_fault (left s at)
-  pub ordinary : r.ordinary ≡ all_of ordinaryWord (left s at)
+  pub ordinary : r.ordinary ≡ all_of ordinary_word (left s at)
   pub joined : Joined d t rows flags count (left s at) r.row
   pub passed : Passed s at n r.next r.after
 
@@ -45,9 +45,9 @@ members_in s x = drop 1 (left s x.end)
 
 -- the heading whose first word is x; `joined` holds also where the line is refused
 pub record GroupLineOf (s : Text) (x : FirstWord) (d : Text) (t rows : List ℕ) (flags : List Bool) (count : ℕ) (r : GroupLine) : Type 0 where
-  pub wrong : (r.fault ≡ 0 → ⊥) → entry_of (line_of 0 true (line_words s x)) ≡ wrongAs r.fault
+  pub wrong : (r.fault ≡ 0 → ⊥) → entry_of (line_of 0 true (line_words s x)) ≡ wrong_as r.fault
   pub right : r.fault ≡ 0 → (entry_of (line_of 0 true (line_words s x)) ≡ group (rest (part s x.start x.end)) (members_in s x))
-      × (all_of ordinaryWord (members_in s x) ≡ true) × Joined d t rows flags count (members_in s x) r.row
+      × (all_of ordinary_word (members_in s x) ≡ true) × Joined d t rows flags count (members_in s x) r.row
   pub joined : Joined d t rows flags count (members_in s x) r.row
   pub onto : ahead s x.end x.line ≡ follow s r.next r.after
   pub on : x.end ≤ r.next

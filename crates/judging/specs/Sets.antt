@@ -4,7 +4,7 @@ use Rattle.text.specs.Bytes.{Text}
 use Rattle.text.specs.Reading.{left, ahead, follow}
 use Rattle.rules.specs.declared.Index.TheVariants as index
 use Rattle.rules.specs.declared.SetHeading.{SetHeading}
-use Rattle.rules.specs.Entries.{Entry, wrong as wrongAs, set as set_of, entry_of}
+use Rattle.rules.specs.Entries.{Entry, wrong as wrong_as, set as set_of, entry_of}
 use Rattle.rules.specs.Checking.{line_of}
 use Rattle.rules.specs.Held.{heading_by, SetSized, FromOne}
 use Rattle.judging.specs.declared.SetJudged.{SetJudged}
@@ -19,13 +19,13 @@ refused_set k = record { fault = k; set = no_set }
 
 -- a line that is a set's heading, or refused
 pub record SetOf (e : Entry) (r : SetJudged) : Type 0 where
-  pub wrong : (r.fault ≡ 0 → ⊥) → e ≡ wrongAs r.fault
+  pub wrong : (r.fault ≡ 0 → ⊥) → e ≡ wrong_as r.fault
   pub right : r.fault ≡ 0 → (e ≡ set_of (heading_by r.set)) × SetSized r.set × FromOne r.set.index
   pub none : (r.fault ≡ 0 → ⊥) → r.set ≡ no_set
 
 -- the same of the heading whose words begin at `from`, in the physical line m, with the lines after it
 pub record SetLineOf (s : Text) (from m : ℕ) (r : SetLine) : Type 0 where
-  pub wrong : (r.fault ≡ 0 → ⊥) → entry_of (line_of 0 true (left s from)) ≡ wrongAs r.fault
+  pub wrong : (r.fault ≡ 0 → ⊥) → entry_of (line_of 0 true (left s from)) ≡ wrong_as r.fault
   pub right : r.fault ≡ 0 → (entry_of (line_of 0 true (left s from)) ≡ set_of (heading_by r.set)) × SetSized r.set × FromOne r.set.index
   pub none : (r.fault ≡ 0 → ⊥) → r.set ≡ no_set
   pub onto : ahead s from m ≡ follow s r.next r.after

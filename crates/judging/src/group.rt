@@ -1,7 +1,7 @@
 // A group line: its words are judged, and their rows are found, as they are read.
 ghost use Rattle.std.specs.Prelude.{◌≡◌, ◌&&◌};
 ghost use Rattle.text.specs.Reading.{Table, Fenced, Within};
-ghost use Rattle.rules.specs.Words.{is_equals, is_group_name, ordinary as ordinaryWord};
+ghost use Rattle.rules.specs.Words.{is_equals, is_group_name, ordinary as ordinary_word};
 ghost use Rattle.listing.specs.Names.{Named};
 ghost use Rattle.names.specs.Compiled.{union};
 ghost use Rattle.judging.specs.Groups.{group_fault, FirstWordAt, DollarWord, MembersOf, GroupLineOf};
@@ -52,7 +52,7 @@ fn either(a: Row, b: Row) -> Row
 }
 
 fn and_ordinary(all: bool, w: &[u8]) -> bool
-    ensures { result ≡ (all && ordinaryWord w.now) }
+    ensures { result ≡ (all && ordinary_word w.now) }
 {
     if all {
         return is_ordinary(w);

@@ -2,17 +2,17 @@
 ghost use Rattle.std.specs.Prelude.{◌≡◌, [], ◌∷◌};
 ghost use Rattle.text.specs.Bytes.{any_of};
 ghost use Rattle.profile.specs.Profile.{fields};
-ghost use Rattle.profile.specs.Refusals.{outside as outsideByte, bad_text};
+ghost use Rattle.profile.specs.Refusals.{outside as outside_byte, bad_text};
 
 // A byte that is not from 0x21 to 0x7E.
 fn outside(b: u8) -> bool
-    ensures { result ≡ outsideByte b }
+    ensures { result ≡ outside_byte b }
 {
     b < 33 || 126 < b
 }
 
 fn any_outside(text: &[u8]) -> bool
-    ensures { result ≡ any_of outsideByte text.now }
+    ensures { result ≡ any_of outside_byte text.now }
 {
     let mut i: usize = 0;
     while i < text.len() {

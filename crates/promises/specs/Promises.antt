@@ -164,9 +164,9 @@ component_fits = sheets.code_fits
 -- names no group that the first defines. "The joined file is the first's bytes, then the second's; its limits are 65,536 bytes, 64 groups and a total
 -- of 1,048,576 bytes." With room for it, "a component's base text equals the first answer's, or the second's where that is empty, and its additions
 -- text equals the first's followed by the second's".
-module _ (a b : Text) (t : Texts) (room-a room-b room : ℕ) (xs ys : List Text)
-    (first : answer room-a a t ≡ accepted xs)
-    (second : answer room-b b t ≡ accepted ys)
+module _ (a b : Text) (t : Texts) (room_a room_b room : ℕ) (xs ys : List Text)
+    (first : answer room_a a t ≡ accepted xs)
+    (second : answer room_b b t ≡ accepted ys)
     (ended : closed a ≡ true)
     (unshared : apart (names_of b) (defines_of a) ≡ true)
     (size : length (a ++ b) ≤ longest_file)
@@ -174,7 +174,7 @@ module _ (a b : Text) (t : Texts) (room-a room-b room : ℕ) (xs ys : List Text)
     (top : total (together xs ys) ≤ longest_total)
     (enough : total (together xs ys) ≤ room) where
   pub joined_files : answer room (a ++ b) t ≡ accepted (together xs ys)
-  joined_files = laws.joined_answer a b t room-a room-b room xs ys first second ended unshared size groups top enough
+  joined_files = laws.joined_answer a b t room_a room_b room xs ys first second ended unshared size groups top enough
 
   -- so for C, with a sheet of 40 bytes or more
   pub joined_entry : (sheet : ℕ) → sheet_length ≤ sheet → entry_answer room sheet (a ++ b) t ≡ accepted (together xs ys)
@@ -251,7 +251,7 @@ module _ (a b : Text) (t : Texts) (c c' : Text) (x : Outcome) (e e' : Text) (y :
     (second : Resolved b t e e' y)
     (both : Resolved (a ++ b) t d d' z)
     (accepted_first : x.number ≡ 0)
-    (accepted-second : y.number ≡ 0)
+    (accepted_second : y.number ≡ 0)
     (ended : closed a ≡ true)
     (names_apart : apart (names_of b) (defines_of a) ≡ true)
     (size : length (a ++ b) ≤ longest_file)
@@ -259,7 +259,7 @@ module _ (a b : Text) (t : Texts) (c c' : Text) (x : Outcome) (e e' : Text) (y :
     (top : total (together (texts_in c' x.lengths) (texts_in e' y.lengths)) ≤ longest_total)
     (enough : total (together (texts_in c' x.lengths) (texts_in e' y.lengths)) ≤ length d) where
   pub joined_resolve : (z.number ≡ 0) × (texts_in d' z.lengths ≡ together (texts_in c' x.lengths) (texts_in e' y.lengths))
-  joined_resolve = resolves.joined_resolve a b t c c' x e e' y d d' z first second both accepted_first accepted-second ended names_apart size groups top enough
+  joined_resolve = resolves.joined_resolve a b t c c' x e e' y d d' z first second both accepted_first accepted_second ended names_apart size groups top enough
 
 -- Demand 3, options: two resolves "that differ only in this, with buffers of the same bytes, give the same answer (number, place and lengths) and leave
 -- the same bytes".

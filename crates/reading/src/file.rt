@@ -1,7 +1,7 @@
 // A file read to its end, or to its first refused line.
 ghost use Rattle.std.specs.Prelude.{◌≡◌, ◌≤◌, ◌<◌, length};
 ghost use Rattle.text.specs.Reading.{Within};
-ghost use Rattle.reading.specs.Owed.{wanting as wantingOf};
+ghost use Rattle.reading.specs.Owed.{wanting as wanting_of};
 ghost use Rattle.reading.specs.States.{Sound};
 ghost use Rattle.reading.specs.Steps.{Stepped};
 ghost use Rattle.output.specs.Store.{farthest};
@@ -136,7 +136,7 @@ fn read_on(
 
 // The set with other layouts that want a rule.
 fn wanting(o: OpenSet, wanted: u64) -> OpenSet
-    ensures { result ≡ wantingOf o wanted }
+    ensures { result ≡ wanting_of o wanted }
 {
     let mut next = o;
     next.wanted = wanted;

@@ -1,7 +1,7 @@
 // The resolve of a rules file for a profile: its answer, and the ten texts in a lent buffer.
 ghost use Rattle.std.specs.Prelude.{◌≡◌, length};
 ghost use Rattle.profile.specs.Profile.{texts_of};
-ghost use Rattle.answers.specs.Answer.{answer, refused as refusedAt, outcome, no_room, Resolved};
+ghost use Rattle.answers.specs.Answer.{answer, refused as refused_at, outcome, no_room, Resolved};
 ghost use Rattle.firing.specs.Stage.{stage_size, Staged};
 
 use answers::Outcome;
@@ -15,7 +15,7 @@ use text::Refusal;
 const LONGEST_FILE: usize = 65536;
 
 fn refused(r: Refusal) -> Outcome
-    ensures { result ≡ outcome (refusedAt r) }
+    ensures { result ≡ outcome (refused_at r) }
 {
     Outcome {
         number: r.number,

@@ -1,6 +1,6 @@
 // The words of a set heading: its left items with their indexes, and its components.
 ghost use Rattle.std.specs.Prelude.{◌≡◌, length, take};
-ghost use Rattle.text.specs.Bytes.{same as sameText};
+ghost use Rattle.text.specs.Bytes.{same as same_text};
 ghost use Rattle.text.specs.Limits.{most_layouts};
 ghost use Rattle.rules.specs.Headings.{numbered_in, up_from, index_of, left_item, component_of, index_number, has_word};
 
@@ -54,7 +54,7 @@ fn index_of(w: &[u8]) -> Index
 
 // Whether a word begins with a keyword.
 pub fn begins(w: &[u8], k: &[u8]) -> bool
-    ensures { result ≡ sameText (take (length k.now) w.now) k.now }
+    ensures { result ≡ same_text (take (length k.now) w.now) k.now }
 {
     let n = k.len();
     if w.len() < n {

@@ -3,7 +3,7 @@ ghost use Rattle.std.specs.Prelude.{◌≡◌, drop};
 ghost use Rattle.text.specs.Bytes.{first};
 ghost use Rattle.text.specs.Marks.{ends_line, class_of};
 ghost use Rattle.text.specs.Words.{bad_byte};
-ghost use Rattle.text.specs.Reading.{in_word, level_of, kind_of, Table, lower as lowerOf};
+ghost use Rattle.text.specs.Reading.{in_word, level_of, kind_of, Table, lower as lower_of};
 
 use super::Class;
 
@@ -80,7 +80,7 @@ pub fn kind(t: &[u8; 512], b: u8) -> u8
 }
 
 pub fn lower(f: usize, g: usize) -> usize
-    ensures { result ≡ lowerOf f g }
+    ensures { result ≡ lower_of f g }
 {
     if f == 0 {
         return g;

@@ -1,11 +1,11 @@
 // Two texts compared: the one comparison that every keyword, value and group name goes through.
 ghost use Rattle.std.specs.Prelude.{◌≡◌, ◌≤◌, length, drop};
-ghost use Rattle.text.specs.Bytes.{same as sameText};
+ghost use Rattle.text.specs.Bytes.{same as same_text};
 
 // The bytes from `from` on, of two texts of one length.
 fn same_from(a: &[u8], b: &[u8], from: usize) -> bool
     requires { (length a.now ≡ length b.now) × (from ≤ length a.now) }
-    ensures { result ≡ sameText (drop from a.now) (drop from b.now) }
+    ensures { result ≡ same_text (drop from a.now) (drop from b.now) }
 {
     let mut i = from;
     while i < a.len() {
@@ -19,7 +19,7 @@ fn same_from(a: &[u8], b: &[u8], from: usize) -> bool
 
 // The last bytes are compared first: words that are listed often begin alike.
 pub fn same(a: &[u8], b: &[u8]) -> bool
-    ensures { result ≡ sameText a.now b.now }
+    ensures { result ≡ same_text a.now b.now }
 {
     let n = a.len();
     if n != b.len() {
