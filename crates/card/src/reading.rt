@@ -53,7 +53,8 @@ fn find_sections(s: &[u8]) -> Found
         at += 2 + size;
         i += 1;
     }
-    if at < s.len() {
+    let more = at < s.len();
+    if more {
         return nothing_found();
     }
     Found {

@@ -27,7 +27,8 @@ fn rest_end(s: &[u8], t: &[u8; 512], fence: usize, from: usize, p: Present) -> u
     if kind(t, s[from]) != 0 {
         return feed_end(s, from);
     }
-    if p.form == 0 {
+    let headless = p.form == 0;
+    if headless {
         return 0;
     }
     rule_end(s, t, fence, from, p)

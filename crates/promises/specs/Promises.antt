@@ -178,7 +178,8 @@ module _ (a b : Text) (t : Texts) (room_a room_b room : ℕ) (xs ys : List Text)
 
   -- so for C, with a sheet of 40 bytes or more
   pub joined_entry : (sheet : ℕ) → sheet_length ≤ sheet → entry_answer room sheet (a ++ b) t ≡ accepted (together xs ys)
-  joined_entry sheet h = rw (entry.entry_same room sheet (a ++ b) t h) joined_files
+  joined_entry sheet h =
+      rw (entry.entry_same room sheet (a ++ b) t h) (laws.joined_answer a b t room_a room_b room xs ys first second ended unshared size groups top enough)
 
 -- "the same answer (number, place and lengths)", and "the same bytes" left in a buffer that held d
 pub record Same (d : Text) (a a' : Answer) : Type 0 where

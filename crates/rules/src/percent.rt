@@ -52,7 +52,8 @@ fn which_of(w: &[u8], at: usize) -> Which
             Which::Matched
         }
         b'1'..=b'4' => {
-            if byte_at(t, 2) != b']' {
+            let close = byte_at(t, 2);
+            if close != b']' {
                 return Which::Wrong;
             }
             Which::Numbered(wide(b - b'0'))

@@ -3,7 +3,7 @@ use Rattle.file_cases.proofs.Cases.{separates_not, separates_there}
 use Rattle.file_cases.proofs.is_separator.Goals as goal
 
 pub returns-then-not-starts_line : goal.returns-then-not-starts_line
-returns-then-not-starts_line c = separates_not _ _ _ c.starts_line.ensures (not-true _ c.if-not-starts_line.true-raw)
+returns-then-not-starts_line c = separates_not _ _ _ c.starts_line.ensures c.if-not-starts_line.true
 
 pub returns : goal.returns
 returns c =

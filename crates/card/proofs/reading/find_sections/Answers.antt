@@ -15,8 +15,8 @@ returns-then-left-size c = finding_cut _ _ _ _ c.loop-i.invariant c.loop-i-test.
 pub loop-i-preserved : goal.loop-i-preserved
 loop-i-preserved c = rw c.wide-size.ensures.0 (finding_more _ _ _ _ c.loop-i.invariant c.loop-i-test.true _ c.section_length-n.ensures (omega (arith, c.if-left-size.false, c.if-left-lt2.false, c.wide-size.ensures.0)))
 
-pub returns-then-at-s : goal.returns-then-at-s
-returns-then-at-s c = finding_left _ _ _ _ c.loop-i.invariant c.loop-i-test.false _ c.if-at-s.true c.nothing_found-then-at-s.ensures
+pub returns-then-more : goal.returns-then-more
+returns-then-more c = finding_left _ _ _ _ c.loop-i.invariant c.loop-i-test.false _ c.if-more.true c.nothing_found-then-more.ensures
 
 pub returns : goal.returns
-returns c = finding_end _ _ _ _ c.loop-i.invariant c.loop-i-test.false _ c.if-at-s.false refl
+returns c = finding_end _ _ _ _ c.loop-i.invariant c.loop-i-test.false _ c.if-more.false refl

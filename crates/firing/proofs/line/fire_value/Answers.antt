@@ -9,7 +9,7 @@ pub returns-then-q-gt-LONGEST_TOTAL : goal.returns-then-q-gt-LONGEST_TOTAL
 returns-then-q-gt-LONGEST_TOTAL c = (fire_full _ _ _ _ c.if-q-gt-LONGEST_TOTAL.true, refl)
 
 pub returns-then-not-has_percent : goal.returns-then-not-has_percent
-returns-then-not-has_percent c = (plain_fired _ _ _ _ _ _ _ _ _ _ (count_at _ _ _) c.has_percent.ensures (not-true _ c.if-not-has_percent.true-raw) c.fire.ensures, refl)
+returns-then-not-has_percent c = (plain_fired _ _ _ _ _ _ _ _ _ _ (count_at _ _ _) c.has_percent.ensures c.if-not-has_percent.true c.fire.ensures, refl)
 
 pub returns : goal.returns
 returns c = (value_fired _ _ _ _ _ _ _ _ _ _ _ _ (count_at _ _ _) c.fill_word-length.ensures c.fire-2.ensures, c.fill_word-length.ensures.long)

@@ -17,7 +17,7 @@ returns-then-t-eq0 c =
 
 pub returns-then-next-component : goal.returns-then-next-component
 returns-then-next-component c =
-    fire_skip c.args.component _ _ _ c.requires.5 (omega (arith, c.if-component-gt4.false)) (some_spread _ _ c.requires.0 c.if-t-eq0.false) (sign_spread _ _ c.requires.0 _ _ c.is_signed-addition.ensures (not-true _ c.if-not-addition.true-raw)) c.if-next-component.true
+    fire_skip c.args.component _ _ _ c.requires.5 (omega (arith, c.if-component-gt4.false)) (some_spread _ _ c.requires.0 c.if-t-eq0.false) (sign_spread _ _ c.requires.0 _ _ c.is_signed-addition.ensures c.if-not-addition.true) c.if-next-component.true
 
 pub offset_bounds-next-r : goal.offset_bounds-next-r
 offset_bounds-next-r c =

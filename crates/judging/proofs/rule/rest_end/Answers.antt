@@ -9,8 +9,8 @@ returns-then-fence-from c = λ z. absurd (z refl)
 pub returns-then-kind-ne0 : goal.returns-then-kind-ne0
 returns-then-kind-ne0 c = λ z. rest_none _ _ _ _ (feed_at _ _ _ c.feed_end.ensures z)
 
-pub returns-then-p-eq0 : goal.returns-then-p-eq0
-returns-then-p-eq0 c = λ z. absurd (z refl)
+pub returns-then-headless : goal.returns-then-headless
+returns-then-headless c = λ z. absurd (z refl)
 
 pub returns : goal.returns
-returns c = λ z. rest_rule _ _ _ _ c.if-p-eq0.false (c.rule_end.ensures z)
+returns c = λ z. rest_rule _ _ _ _ c.if-headless.false (c.rule_end.ensures z)

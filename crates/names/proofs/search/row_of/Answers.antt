@@ -9,4 +9,4 @@ pub bounds-flags-sieve_of : goal.bounds-flags-sieve_of
 bounds-flags-sieve_of c = rw c.sieve_of.ensures (sieve_low _)
 
 pub returns-then-not-flags-sieve_of : goal.returns-then-not-flags-sieve_of
-returns-then-not-flags-sieve_of c = row_sieved _ _ _ _ _ _ _ c.sieve_of.ensures (not-true _ c.if-not-flags-sieve_of.true-raw)
+returns-then-not-flags-sieve_of c = row_sieved _ _ _ _ _ _ _ c.sieve_of.ensures c.if-not-flags-sieve_of.true

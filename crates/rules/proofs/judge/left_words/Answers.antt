@@ -12,7 +12,7 @@ pub word-requires : goal.word-requires
 word-requires c = (c.requires.0, omega arith, omega arith)
 
 pub returns-then-not-is_left_word : goal.returns-then-not-is_left_word
-returns-then-not-is_left_word c = upto_miss left_word _ _ _ c.loop-j.invariant c.loop-j-test.true c.requires.2 (ap left_word (sym c.word.ensures) ∙ (sym c.is_left_word.ensures ∙ not-true _ c.if-not-is_left_word.true-raw))
+returns-then-not-is_left_word c = upto_miss left_word _ _ _ c.loop-j.invariant c.loop-j-test.true c.requires.2 (ap left_word (sym c.word.ensures) ∙ (sym c.is_left_word.ensures ∙ c.if-not-is_left_word.true))
 
 pub loop-j-preserved : goal.loop-j-preserved
 loop-j-preserved c = upto_more left_word _ _ _ c.loop-j.invariant c.loop-j-test.true c.requires.2 (ap left_word (sym c.word.ensures) ∙ (sym c.is_left_word.ensures ∙ c.if-not-is_left_word.false))

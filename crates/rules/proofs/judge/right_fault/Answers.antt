@@ -16,7 +16,7 @@ word-x-requires c =
 
 pub returns-then-not-is_ordinary : goal.returns-then-not-is_ordinary
 returns-then-not-is_ordinary c =
-    right_odd _ _ _ _ _ c.loop-j.invariant (omega arith) (ap ordinary (sym c.word-x.ensures) ∙ (sym c.is_ordinary.ensures ∙ not-true _ c.if-not-is_ordinary.true-raw))
+    right_odd _ _ _ _ _ c.loop-j.invariant (omega arith) (ap ordinary (sym c.word-x.ensures) ∙ (sym c.is_ordinary.ensures ∙ c.if-not-is_ordinary.true))
 
 pub loop-j-preserved : goal.loop-j-preserved
 loop-j-preserved c =

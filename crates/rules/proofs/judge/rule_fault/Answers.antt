@@ -13,11 +13,11 @@ returns-then-count-n c =
 
 pub returns-then-not-left_words : goal.returns-then-not-left_words
 returns-then-not-left_words c =
-    fault_left _ _ c.if-p-eq0.false _ c.requires.1 c.if-count-n.false (sym c.left_words.ensures ∙ not-true _ c.if-not-left_words.true-raw)
+    fault_left _ _ c.if-p-eq0.false _ c.requires.1 c.if-count-n.false (sym c.left_words.ensures ∙ c.if-not-left_words.true)
 
 pub returns-then-not-is_equals : goal.returns-then-not-is_equals
 returns-then-not-is_equals c =
-    fault_equals _ _ c.if-p-eq0.false _ c.requires.1 c.if-count-n.false (sym c.left_words.ensures ∙ c.if-not-left_words.false) (ap is_equals (sym c.word.ensures) ∙ (sym c.is_equals.ensures ∙ not-true _ c.if-not-is_equals.true-raw))
+    fault_equals _ _ c.if-p-eq0.false _ c.requires.1 c.if-count-n.false (sym c.left_words.ensures ∙ c.if-not-left_words.false) (ap is_equals (sym c.word.ensures) ∙ (sym c.is_equals.ensures ∙ c.if-not-is_equals.true))
 
 pub returns : goal.returns
 returns c =

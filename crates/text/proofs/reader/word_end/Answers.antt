@@ -26,7 +26,7 @@ in_word-requires c = tt
 
 pub returns-then-not-in_word : goal.returns-then-not-in_word
 returns-then-not-in_word c =
-    in_word_over _ _ _ c.loop-i.invariant c.loop-i-test.true (cc (not-true c.in_word.result c.if-not-in_word.true-raw))
+    in_word_over _ _ _ c.loop-i.invariant c.loop-i-test.true (cc c.if-not-in_word.true)
 
 pub overflow_add-i-in-loop-i-2 : goal.overflow_add-i-in-loop-i-2
 overflow_add-i-in-loop-i-2 c = omega arith
@@ -36,7 +36,7 @@ loop-i-smaller c = omega arith
 
 pub loop-i-preserved : goal.loop-i-preserved
 loop-i-preserved c =
-    in_word_more _ _ _ c.loop-i.invariant c.loop-i-test.true (cc (not-false c.in_word.result c.if-not-in_word.false-raw))
+    in_word_more _ _ _ c.loop-i.invariant c.loop-i-test.true (cc c.if-not-in_word.false)
 
 pub returns : goal.returns
 returns c = in_word_end _ _ _ c.loop-i.invariant c.loop-i-test.false
