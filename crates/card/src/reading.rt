@@ -118,7 +118,8 @@ pub fn judge(s: &[u8]) -> CardRead
     }
     let lengths = f.lengths;
     let p = check_profile(s, lengths);
-    if p.number == 0 {
+    let fine = p.number == 0;
+    if fine {
         return CardRead { number: 0, lengths };
     }
     refused(16)

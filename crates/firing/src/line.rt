@@ -31,7 +31,8 @@ fn fire_value(
         (expanded (profile_at text.now bounds.now n) k x.now)
         × (length scratch.new ≡ length scratch.old) }
 {
-    if LONGEST_TOTAL < q.total {
+    let full = LONGEST_TOTAL < q.total;
+    if full {
         return q;
     }
     if !has_percent(x) {

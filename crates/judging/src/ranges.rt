@@ -99,7 +99,8 @@ fn range_of(index: Index, n: usize) -> Range
         }
         Index::Any => Range { first: 1, count: n },
         Index::Numbered(k) => {
-            if n <= 1 {
+            let lone = n <= 1;
+            if lone {
                 return Range { first: k, count: 0 };
             }
             if n < k {

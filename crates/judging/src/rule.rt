@@ -136,7 +136,8 @@ pub fn rule_line(
         };
     }
     let j = judge_words(s, t, fence, from, number, p);
-    if j.fault != 0 {
+    let bad = j.fault != 0;
+    if bad {
         return RuleLine::Refused(j.fault);
     }
     RuleLine::Read {

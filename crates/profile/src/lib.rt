@@ -37,10 +37,12 @@ pub fn check(model: &[u8], layouts: &[u8], variants: &[u8], options: &[u8]) -> t
     if 4 < n {
         return refusal(2, 2);
     }
-    if n < fields::field_count(variants) {
+    let more = n < fields::field_count(variants);
+    if more {
         return refusal(2, 3);
     }
-    if 64 < fields::option_count(options) {
+    let many = 64 < fields::option_count(options);
+    if many {
         return refusal(2, 4);
     }
     refusal(0, 0)

@@ -49,7 +49,8 @@ pub fn bad_fields(text: &[u8]) -> bool
             return true;
         }
         if b == 44 {
-            if 64 < i - start {
+            let long = 64 < i - start;
+            if long {
                 return true;
             }
             i += 1;

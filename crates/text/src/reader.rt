@@ -76,7 +76,8 @@ fn odd_word(s: &[u8], from: usize) -> WordAt
     if any_bad(s, from, end) {
         return WordAt { end, fault: 4 };
     }
-    if 256 < end - from {
+    let long = 256 < end - from;
+    if long {
         return WordAt { end, fault: 5 };
     }
     WordAt { end, fault: 0 }

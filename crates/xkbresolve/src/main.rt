@@ -20,7 +20,8 @@ fn run(input: &[u8], out: &mut [u8]) -> usize
     ensures out_after { take result out.new ≡ printed (input_answer input.now) }
     ensures prefix_len { (result ≤ length out.new) × (result ≡ length (take result out.new)) }
 {
-    if 65536 < input.len() {
+    let long = 65536 < input.len();
+    if long {
         return put_refusal(3, 0, out) as usize;
     }
     let model = first_line(input);

@@ -47,7 +47,8 @@ pub fn xkbrules_resolve(
         return packed(m.number, m.place);
     }
     let a = resolve(rules, model, layouts, variants, options, texts);
-    if a.number == 0 {
+    let accepted = a.number == 0;
+    if accepted {
         let lengths = a.lengths;
         put_lengths(sheet, lengths);
         return 0;
@@ -71,7 +72,8 @@ pub fn xkbrules_component(texts: &[u8], sheet: &[u8], component: u64) -> u64
     if texts.len() < total {
         return 0;
     }
-    if 4294967296 <= total {
+    let over = 4294967296 <= total;
+    if over {
         return 0;
     }
     let c = component as usize;

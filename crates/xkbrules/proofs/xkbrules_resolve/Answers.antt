@@ -15,9 +15,9 @@ pub returns-then-sheet-lt40 : goal.returns-then-sheet-lt40
 returns-then-sheet-lt40 c =
     way_refused _ _ _ _ c.measure-m.ensures c.args.sheet.now _ _ c.if-m-eq0.false c.packed-then-sheet-lt40.ensures (buffer_kept _ _ _ _ c.measure-m.ensures c.if-m-eq0.false)
 
-pub returns-then-a-eq0 : goal.returns-then-a-eq0
-returns-then-a-eq0 c =
-    way_accepted _ _ _ _ c.resolve-a.ensures.result c.args.sheet.now _ _ c.if-sheet-lt40.false c.if-a-eq0.true c.resolve-a.ensures.buffer c.put_lengths.ensures
+pub returns-then-accepted : goal.returns-then-accepted
+returns-then-accepted c =
+    way_accepted _ _ _ _ c.resolve-a.ensures.result c.args.sheet.now _ _ c.if-sheet-lt40.false c.if-accepted.true c.resolve-a.ensures.buffer c.put_lengths.ensures
 
 pub packed-requires-2 : goal.packed-requires-2
 packed-requires-2 c =
@@ -25,4 +25,4 @@ packed-requires-2 c =
 
 pub returns : goal.returns
 returns c =
-    way_refused _ _ _ _ c.resolve-a.ensures.result c.args.sheet.now _ _ c.if-a-eq0.false c.packed-2.ensures c.resolve-a.ensures.buffer
+    way_refused _ _ _ _ c.resolve-a.ensures.result c.args.sheet.now _ _ c.if-accepted.false c.packed-2.ensures c.resolve-a.ensures.buffer

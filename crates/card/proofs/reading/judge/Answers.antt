@@ -7,8 +7,8 @@ returns-then-f c = judge_broken _ _ _ c.find_sections-f.ensures c.if-f.true c.re
 pub check_profile-p-requires : goal.check_profile-p-requires
 check_profile-p-requires c = found_sectioned _ _ c.find_sections-f.ensures c.if-f.false
 
-pub returns-then-p-eq0 : goal.returns-then-p-eq0
-returns-then-p-eq0 c = judge_good _ _ (found_sectioned _ _ c.find_sections-f.ensures c.if-f.false) _ c.check_profile-p.ensures c.if-p-eq0.true
+pub returns-then-fine : goal.returns-then-fine
+returns-then-fine c = judge_good _ _ (found_sectioned _ _ c.find_sections-f.ensures c.if-f.false) _ c.check_profile-p.ensures c.if-fine.true
 
 pub returns : goal.returns
-returns c = judge_beyond _ _ (found_sectioned _ _ c.find_sections-f.ensures c.if-f.false) _ c.check_profile-p.ensures _ c.if-p-eq0.false c.refused-2.ensures
+returns c = judge_beyond _ _ (found_sectioned _ _ c.find_sections-f.ensures c.if-f.false) _ c.check_profile-p.ensures _ c.if-fine.false c.refused-2.ensures

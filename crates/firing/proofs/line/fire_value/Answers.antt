@@ -5,8 +5,8 @@ use Rattle.firing.proofs.ValueFires.{value_fired, plain_fired}
 use Rattle.firing.proofs.Going.{fire_full}
 use Rattle.firing.proofs.line.fire_value.Goals as goal
 
-pub returns-then-q-gt-LONGEST_TOTAL : goal.returns-then-q-gt-LONGEST_TOTAL
-returns-then-q-gt-LONGEST_TOTAL c = (fire_full _ _ _ _ c.if-q-gt-LONGEST_TOTAL.true, refl)
+pub returns-then-full : goal.returns-then-full
+returns-then-full c = (fire_full _ _ _ _ c.if-full.true, refl)
 
 pub returns-then-not-has_percent : goal.returns-then-not-has_percent
 returns-then-not-has_percent c = (plain_fired _ _ _ _ _ _ _ _ _ _ (count_at _ _ _) c.has_percent.ensures c.if-not-has_percent.true c.fire.ensures, refl)

@@ -4,11 +4,11 @@ use Rattle.judging.proofs.ranges.range_of.Goals as goal
 pub returns-then-n-eq0 : goal.returns-then-n-eq0
 returns-then-n-eq0 c = at_later_none _ _ c.in-Later.is c.if-n-eq0.true
 
-pub returns-then-n-le1 : goal.returns-then-n-le1
-returns-then-n-le1 c = at_lone _ _ _ c.in-Numbered.is c.if-n-le1.true
+pub returns-then-lone : goal.returns-then-lone
+returns-then-lone c = at_lone _ _ _ c.in-Numbered.is c.if-lone.true
 
 pub returns-then-n-k : goal.returns-then-n-k
-returns-then-n-k c = at_beyond _ _ _ c.in-Numbered.is c.if-n-le1.false c.if-n-k.true
+returns-then-n-k c = at_beyond _ _ _ c.in-Numbered.is c.if-lone.false c.if-n-k.true
 
 pub returns-in-Absent : goal.returns-in-Absent
 returns-in-Absent c = at_absent _ _ _ c.in-Absent.is c.alone.ensures
@@ -26,7 +26,7 @@ pub returns-in-Any : goal.returns-in-Any
 returns-in-Any c = at_any _ _ c.in-Any.is
 
 pub returns-else-n-k : goal.returns-else-n-k
-returns-else-n-k c = at_number _ _ _ c.in-Numbered.is c.if-n-le1.false c.if-n-k.false
+returns-else-n-k c = at_number _ _ _ c.in-Numbered.is c.if-lone.false c.if-n-k.false
 
 pub returns-in-Wrong : goal.returns-in-Wrong
 returns-in-Wrong c = at_wrong _ _ c.in-Wrong.is

@@ -8,10 +8,10 @@ pub returns-then-e-ne0 : goal.returns-then-e-ne0
 returns-then-e-ne0 c =
     read_rest _ _ _ _ _ _ _ c.requires.1 c.open_plain-o.ensures c.if-o.false _ (c.rest_end-e.ensures c.if-e-ne0.true)
 
-pub returns-then-j-ne0 : goal.returns-then-j-ne0
-returns-then-j-ne0 c =
-    words_refused _ _ _ _ _ _ _ c.requires.1 c.open_plain-o.ensures c.if-o.false _ c.judge_words-j.ensures c.if-j-ne0.true
+pub returns-then-bad : goal.returns-then-bad
+returns-then-bad c =
+    words_refused _ _ _ _ _ _ _ c.requires.1 c.open_plain-o.ensures c.if-o.false _ c.judge_words-j.ensures c.if-bad.true
 
 pub returns : goal.returns
 returns c =
-    read_words _ _ _ _ _ _ _ c.requires.1 c.open_plain-o.ensures c.if-o.false _ c.judge_words-j.ensures c.if-j-ne0.false
+    read_words _ _ _ _ _ _ _ c.requires.1 c.open_plain-o.ensures c.if-o.false _ c.judge_words-j.ensures c.if-bad.false

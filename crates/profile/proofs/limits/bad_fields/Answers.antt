@@ -11,11 +11,11 @@ loop-i-init c = sound_start _ c.if-text-gt1024.false
 pub returns-then-outside : goal.returns-then-outside
 returns-then-outside c = sound_bad _ _ _ c.loop-i.invariant c.loop-i-test.true (sym c.outside.ensures ∙ c.if-outside.true)
 
-pub returns-then-i-start-gt64 : goal.returns-then-i-start-gt64
-returns-then-i-start-gt64 c = sound_long _ _ _ c.loop-i.invariant c.loop-i-test.true (sym c.outside.ensures ∙ c.if-outside.false) c.if-b-eq44.true c.if-i-start-gt64.true
+pub returns-then-long : goal.returns-then-long
+returns-then-long c = sound_long _ _ _ c.loop-i.invariant c.loop-i-test.true (sym c.outside.ensures ∙ c.if-outside.false) c.if-b-eq44.true c.if-long.true
 
 pub loop-i-preserved-then-b-eq44 : goal.loop-i-preserved-then-b-eq44
-loop-i-preserved-then-b-eq44 c = sound_next _ _ _ c.loop-i.invariant c.loop-i-test.true (sym c.outside.ensures ∙ c.if-outside.false) c.if-b-eq44.true c.if-i-start-gt64.false
+loop-i-preserved-then-b-eq44 c = sound_next _ _ _ c.loop-i.invariant c.loop-i-test.true (sym c.outside.ensures ∙ c.if-outside.false) c.if-b-eq44.true c.if-long.false
 
 pub loop-i-preserved : goal.loop-i-preserved
 loop-i-preserved c = sound_more _ _ _ c.loop-i.invariant c.loop-i-test.true (sym c.outside.ensures ∙ c.if-outside.false) c.if-b-eq44.false

@@ -5,8 +5,8 @@ use Rattle.text.proofs.reader.odd_word.Goals as goal
 pub returns-then-any_bad : goal.returns-then-any_bad
 returns-then-any_bad c = odd_bad _ _ _ c.requires c.word_end-end.ensures (sym c.any_bad.ensures ∙ c.if-any_bad.true)
 
-pub returns-then-end-from-gt256 : goal.returns-then-end-from-gt256
-returns-then-end-from-gt256 c = odd_long _ _ _ c.requires c.word_end-end.ensures (sym c.any_bad.ensures ∙ c.if-any_bad.false) c.if-end-from-gt256.true
+pub returns-then-long : goal.returns-then-long
+returns-then-long c = odd_long _ _ _ c.requires c.word_end-end.ensures (sym c.any_bad.ensures ∙ c.if-any_bad.false) c.if-long.true
 
 pub returns : goal.returns
-returns c = odd_fine _ _ _ c.requires c.word_end-end.ensures (sym c.any_bad.ensures ∙ c.if-any_bad.false) c.if-end-from-gt256.false
+returns c = odd_fine _ _ _ c.requires c.word_end-end.ensures (sym c.any_bad.ensures ∙ c.if-any_bad.false) c.if-long.false
