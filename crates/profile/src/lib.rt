@@ -37,7 +37,8 @@ pub fn check(model: &[u8], layouts: &[u8], variants: &[u8], options: &[u8]) -> t
     if 4 < n {
         return refusal(2, 2);
     }
-    let more = n < fields::field_count(variants);
+    let m = fields::field_count(variants);
+    let more = n < m;
     if more {
         return refusal(2, 3);
     }

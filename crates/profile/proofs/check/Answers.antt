@@ -22,12 +22,12 @@ returns-then-n-gt4 c = c.refusal-then-n-gt4.ensures ∙ refused_count _ _ _ _ re
 
 pub returns-then-more : goal.returns-then-more
 returns-then-more c =
-    c.refusal-then-more.ensures ∙ refused_more _ _ _ _ record { model = sym c.bad_model.ensures ∙ c.if-bad_model.false; layouts = sym c.bad_fields.ensures ∙ c.if-bad_fields.false; variants = sym c.bad_fields-2.ensures ∙ c.if-bad_fields-2.false; options = sym c.bad_fields-3.ensures ∙ c.if-bad_fields-3.false } _ c.field_count-n.ensures c.if-n-gt4.false _ c.field_count.ensures c.if-more.true
+    c.refusal-then-more.ensures ∙ refused_more _ _ _ _ record { model = sym c.bad_model.ensures ∙ c.if-bad_model.false; layouts = sym c.bad_fields.ensures ∙ c.if-bad_fields.false; variants = sym c.bad_fields-2.ensures ∙ c.if-bad_fields-2.false; options = sym c.bad_fields-3.ensures ∙ c.if-bad_fields-3.false } _ c.field_count-n.ensures c.if-n-gt4.false _ c.field_count-m.ensures c.if-more.true
 
 pub returns-then-many : goal.returns-then-many
 returns-then-many c =
-    c.refusal-then-many.ensures ∙ refused_many _ _ _ _ record { model = sym c.bad_model.ensures ∙ c.if-bad_model.false; layouts = sym c.bad_fields.ensures ∙ c.if-bad_fields.false; variants = sym c.bad_fields-2.ensures ∙ c.if-bad_fields-2.false; options = sym c.bad_fields-3.ensures ∙ c.if-bad_fields-3.false } _ c.field_count-n.ensures c.if-n-gt4.false _ c.field_count.ensures c.if-more.false _ c.option_count-many.ensures c.if-many.true
+    c.refusal-then-many.ensures ∙ refused_many _ _ _ _ record { model = sym c.bad_model.ensures ∙ c.if-bad_model.false; layouts = sym c.bad_fields.ensures ∙ c.if-bad_fields.false; variants = sym c.bad_fields-2.ensures ∙ c.if-bad_fields-2.false; options = sym c.bad_fields-3.ensures ∙ c.if-bad_fields-3.false } _ c.field_count-n.ensures c.if-n-gt4.false _ c.field_count-m.ensures c.if-more.false _ c.option_count-many.ensures c.if-many.true
 
 pub returns : goal.returns
 returns c =
-    c.refusal-2.ensures ∙ refused_none _ _ _ _ record { model = sym c.bad_model.ensures ∙ c.if-bad_model.false; layouts = sym c.bad_fields.ensures ∙ c.if-bad_fields.false; variants = sym c.bad_fields-2.ensures ∙ c.if-bad_fields-2.false; options = sym c.bad_fields-3.ensures ∙ c.if-bad_fields-3.false } _ c.field_count-n.ensures c.if-n-gt4.false _ c.field_count.ensures c.if-more.false _ c.option_count-many.ensures c.if-many.false
+    c.refusal-2.ensures ∙ refused_none _ _ _ _ record { model = sym c.bad_model.ensures ∙ c.if-bad_model.false; layouts = sym c.bad_fields.ensures ∙ c.if-bad_fields.false; variants = sym c.bad_fields-2.ensures ∙ c.if-bad_fields-2.false; options = sym c.bad_fields-3.ensures ∙ c.if-bad_fields-3.false } _ c.field_count-n.ensures c.if-n-gt4.false _ c.field_count-m.ensures c.if-more.false _ c.option_count-many.ensures c.if-many.false
