@@ -82,7 +82,7 @@ uninstall:
 	    "$(DESTDIR)$(COMPLETIONSDIR)/xkbrules"
 
 clean:
-	rm -rf target
+	rm -rf target crates/*/out
 
 # What a resolve costs, on Debian's stock rules files and on hard ones: docs/PERFORMANCE.md.
 bench-needs:

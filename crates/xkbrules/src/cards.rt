@@ -1,4 +1,4 @@
-// The entries for C that write and read a desk card, on byte slices only: include/xkbrules.h declares them.
+// What the entries for C that write and read a desk card do, on byte slices only.
 ghost use Rattle.std.specs.Prelude.{◌≡◌, ◌+◌, ◌*◌, ◌^◌, ◌≤◌};
 ghost use Rattle.profile.specs.Profile.{texts_of};
 ghost use Rattle.xkbrules.specs.Cards.{CardWrites, CardReads};

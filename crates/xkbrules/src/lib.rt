@@ -1,4 +1,4 @@
-// The entries for C, on numbers and byte slices only. A slice is a pointer and a length there: include/xkbrules.h declares them.
+// What the entries for C do, on numbers and byte slices only; `xkbrules_c` exports them.
 #![tactic(auto)]
 
 ghost use Rattle.std.specs.Prelude.{◌≡◌, ◌+◌, ◌*◌, ◌^◌, ◌≤◌, length};
