@@ -6,7 +6,7 @@
    A slice that is no `const` is written: it must not overlap any other slice of the call. The others are only read, and may overlap.
 
    The functions keep no state between calls, allocate nothing and lock nothing, so any number of threads may call them at once, each with its own
-   slices to write to. They always return. They use about 54 KiB of stack.
+   slices to write to. They always return. They use about 56 KiB of stack.
 
    "Accepted" says that the file and the profile are well formed and that the strings are theirs. It does not say that a
    keyboard will work:
