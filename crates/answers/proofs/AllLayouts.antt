@@ -13,7 +13,7 @@ use Rattle.text.proofs.Lists.{and_both, neither, same_eq, same_self, all_append}
 use Rattle.profile.specs.Profile.{Profile, layout_count, push}
 use Rattle.rules.specs.declared.Column.TheVariants as column
 use Rattle.rules.specs.Words.{is_star, is_equals, has_dollar}
-use Rattle.rules.specs.Headings.{Heading, decimal, up_from, index_of, left_item, component_of, columns_in, indexes_in, column_number, index_number, known_index, known_item, distinct, alike, first_index, heading_of, good_items}
+use Rattle.rules.specs.Headings.{Heading, decimal, up_from, index_of, left_item, component_of, columns_in, indexes_in, column_number, index_number, known_item, distinct, alike, first_index, heading_of, good_items}
 use Rattle.rules.specs.Entries.{before, after, set_shape, set_entry, heading_entry, set}
 use Rattle.rules.specs.Percent.{pieces, piece_after, piece_length}
 use Rattle.rules.specs.Sections.{Rule, applies}
@@ -358,7 +358,7 @@ module _ (w : Text) (h : component_of w < 5) where
   all_heading_lem = rw (component_differs w h, lt-ltb (component_of w) 5 h)
 
   pub any_heading_lem : heading_entry (bytes "layout[any]" ∷ bytes "option" ∷ bytes "=" ∷ w ∷ []) ≡ set (any_heading (component_of w))
-  unfolding heading_entry has_dollar set_entry set_shape before after good_items heading_of left_item index_of known_item known_index index_number distinct alike columns_in
+  unfolding heading_entry has_dollar set_entry set_shape before after good_items heading_of left_item index_of known_item index_number distinct alike columns_in
       indexes_in column_number first_index same bytes first empty all_of any_of concat_map is_equals
   any_heading_lem = rw (component_differs w h, lt-ltb (component_of w) 5 h)
 

@@ -8,3 +8,4 @@ pub mod Accepted
 pub mod Places
 pub mod LineEnds
 pub mod AllLayouts
+pub mod Told

@@ -9,20 +9,27 @@ use lib.ListN.{length, take, drop, get_or, length-append}
 use lib.Seq.{take_all, take-nil, take-append-add, drop-append-add}
 use lib.Dec.{ltb}
 use borrow.Author.Tests.{lt-ltb, le-ltb}
+use Rattle.std.specs.List.{sum as std_sum, sum_by}
+use Rattle.std.proofs.lemmas.List.Sums.{sum_by-cons, sum-map}
 use Rattle.text.specs.Bytes.{Text}
 use Rattle.answers.specs.Answer.{sum, joined, total, accepted, lengths_of, buffer_after, stretch_start, stretch_length, stretch}
 
 -- sums
+
+-- in std's words
+sum_cons : (ns : List ℕ) → sum_by (λ x. x) ns ≡ sum ns
+unfolding sum
+sum_cons [] = refl
+sum_cons (x ∷ ns) = sum_by-cons (λ x. x) x ns ∙ rw (sum_cons ns)
+
+pub sum_is : (ns : List ℕ) → std_sum (map (λ x. x) ns) ≡ sum ns
+sum_is ns = sum-map (λ x. x) ns ∙ sum_cons ns
 
 pub sum_take : (n : ℕ) (ns : List ℕ) → sum (take n ns) ≤ sum ns
 unfolding sum
 sum_take zero ns = omega arith
 sum_take (suc n) [] = omega arith
 sum_take (suc n) (x ∷ ns) = omega (arith, sum_take n ns)
-
-pub sum_none : (ns : List ℕ) → 0 ≡ sum (take 0 ns)
-unfolding sum
-sum_none ns = refl
 
 sum_suc : (n : ℕ) (ns : List ℕ) → n < length ns → sum (take n ns) + get_or ns n 0 ≡ sum (take (n + 1) ns)
 unfolding sum
@@ -34,12 +41,6 @@ sum_suc (suc n) (x ∷ ns) h =
 
 pub sum_next : (m v i k : ℕ) (ns : List ℕ) → length ns ≡ k → m ≡ sum (take i ns) → v ≡ get_or ns i 0 → i < k → m + v ≡ sum (take (i + 1) ns)
 sum_next m v i k ns l e g h = rw (e, g) (sum_suc i ns (omega arith))
-
-pub sum_all : (n i k : ℕ) (ns : List ℕ) → n ≡ sum (take i ns) → i ≤ k → k ≤ i → n ≡ sum (take k ns)
-sum_all n i k ns e h j = let z : i ≡ k = omega arith in e ∙ ap (λ m. sum (take m ns)) z
-
-pub sum_beyond : (n i k : ℕ) (ns : List ℕ) → n ≡ sum (take i ns) → length ns ≤ i → i ≤ k → n ≡ sum (take k ns)
-sum_beyond n i k ns e h j = e ∙ ap sum (take_all i ns h ∙ sym (take_all k ns (omega arith)))
 
 sum_more : (i : ℕ) (ns : List ℕ) → sum (take i ns) ≤ sum (take (i + 2) ns)
 unfolding sum

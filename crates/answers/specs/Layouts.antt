@@ -16,7 +16,6 @@ layouts_at n (index.Numbered k) = cond (ltb 1 n && leb k n) (k ∷ []) []
 layouts_at n index.First = 1 ∷ []
 layouts_at n index.Later = up_from (n - 1) 2
 layouts_at n index.Any = up_from n 1
-layouts_at n index.Wrong = []
 
 unfoldable pub per_layout : Column → Bool
 per_layout column.Model = false

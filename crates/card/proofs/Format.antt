@@ -1,5 +1,5 @@
 -- Sections: what is written is read back, what is read is written so, and where each section stands.
-use Prim.Native.Nat.{ℕ, zero, suc, ◌+◌, ◌*◌, ◌-◌, ◌/◌, ◌%◌, ◌≤◌, ◌<◌}
+use Prim.Native.Nat.{ℕ, zero, suc, ◌+◌, ◌*◌, ◌/◌, ◌%◌, ◌≤◌, ◌<◌}
 use native.Mathlib.Omega.{arith}
 use mathlib.Core.Path.{◌≡◌, refl, sym, ap, ap₂, ◌∙◌}
 use mathlib.Core.List.{List, [], ◌∷◌, ◌++◌, map}
@@ -8,12 +8,10 @@ use lib.ListN.{length, take, drop, get_or, length-append, length-take, length-dr
 use lib.Seq.{take-append_seam, drop-append_seam, get_or-drop}
 use lib.Dec.{ltb}
 use borrow.Author.Tests.{le-ltb, ltb-false}
-use Rattle.text.specs.Bytes.{Text, part, empty, any_of, concat_map}
+use Rattle.text.specs.Bytes.{Text, empty, any_of, concat_map}
 use Rattle.text.proofs.Lists.{no, neither}
-use Rattle.text.proofs.Positions.{part_of_part}
 use Rattle.answers.specs.Answer.{sum, total}
-use Rattle.answers.proofs.Stretch.{sum_take, sum_next}
-use Rattle.card.specs.Card.{longest_section, two_bytes, section, card_of, section_length, cut_short, behind_section, sections_in, broken, start_at, Bytes}
+use Rattle.card.specs.Card.{longest_section, two_bytes, section, card_of, section_length, cut_short, behind_section, sections_in, broken, Bytes}
 use Rattle.card.specs.Writing.{long_section}
 
 -- a section at the start of a text
@@ -94,14 +92,6 @@ spelled (a ∷ b ∷ r) h k =
     let d : 2 + n ≡ suc (suc n) = omega arith in
     rw (x, y, d) (ap (λ q. a ∷ b ∷ q) (take-append-drop n r))
 
-part_front : (s : Text) (n : ℕ) → part s 2 (2 + n) ≡ take n (drop 2 s)
-unfolding part
-part_front s n = let z : 2 + n - 2 ≡ n = omega arith in rw z
-
-part_behind : (s : Text) (a e : ℕ) → part (behind_section s) a e ≡ part s (2 + section_length s + a) (2 + section_length s + e)
-unfolding behind_section
-part_behind s a e = part_of_part s (2 + section_length s) a e
-
 -- n sections that are not broken
 
 pub unbroken_first : (n : ℕ) (s : Text) → broken (suc n) s ≡ false → (cut_short s ≡ false) × (broken n (behind_section s) ≡ false)
@@ -148,45 +138,3 @@ sections_length zero s h = rw (unbroken_none s h)
 sections_length (suc n) s h =
     let w = unbroken_first n s h in
     omega (arith, behind_length s w.0, text_length s w.0, sections_length n (behind_section s) w.1)
-
-start_cons : (n : ℕ) (ns : List ℕ) (k : ℕ) → start_at (n ∷ ns) (suc k) ≡ 2 + n + start_at ns k
-unfolding start_at sum
-start_cons n ns k = omega arith
-
--- one section more
-pub start_more : (ns : List ℕ) (k n : ℕ) → k < length ns → n ≡ get_or ns k 0 → start_at ns k + (2 + n) ≡ start_at ns (k + 1)
-unfolding start_at
-start_more ns k n h e = omega (arith, sum_next (sum (take k ns)) n k (length ns) ns refl refl e h)
-
-pub start_none : (ns : List ℕ) → start_at ns 0 ≡ 0
-unfolding start_at sum
-start_none ns = refl
-
--- none begins behind the end
-pub start_inside : (n k : ℕ) (s : Text) → broken n s ≡ false → k ≤ n → start_at (map length (sections_in n s)) k ≤ length s
-unfolding start_at total
-start_inside n k s h l = omega (arith, sections_length n s h, sum_take k (map length (sections_in n s)))
-
--- the text of the section of the number k
-pub section_at : (n k : ℕ) (s : Text) → broken n s ≡ false → k < n →
-    get_or (sections_in n s) k [] ≡ part s (start_at (map length (sections_in n s)) k + 2) (start_at (map length (sections_in n s)) (k + 1))
-unfolding sections_in
-section_at zero k s h l = absurd (omega arith)
-section_at (suc n) zero s h l = first_at s (unbroken_first n s h).0 (map length (sections_in n (behind_section s)))
-  where
-    first_at : (s : Text) → cut_short s ≡ false → (ns : List ℕ) →
-        take (section_length s) (drop 2 s) ≡ part s (start_at (length (take (section_length s) (drop 2 s)) ∷ ns) 0 + 2) (start_at (length (take (section_length s) (drop 2 s)) ∷ ns) 1)
-    first_at s h ns =
-        let m = length (take (section_length s) (drop 2 s)) in
-        let a : start_at (m ∷ ns) 0 + 2 ≡ 2 = omega (arith, start_none (m ∷ ns)) in
-        let e : start_at (m ∷ ns) 1 ≡ 2 + section_length s = omega (arith, start_cons m ns 0, start_none ns, text_length s h) in
-        rw (a, e) (sym (part_front s (section_length s)))
-section_at (suc n) (suc k) s h l =
-    let w = unbroken_first n s h in
-    let ns = map length (sections_in n (behind_section s)) in
-    let m = length (take (section_length s) (drop 2 s)) in
-    let c : suc k + 1 ≡ suc (k + 1) = omega arith in
-    let a : start_at (m ∷ ns) (suc k) + 2 ≡ 2 + section_length s + (start_at ns k + 2) = omega (arith, start_cons m ns k, text_length s w.0) in
-    let e : start_at (m ∷ ns) (suc k + 1) ≡ 2 + section_length s + start_at ns (k + 1) =
-    ap (start_at (m ∷ ns)) c ∙ omega (arith, start_cons m ns (k + 1), text_length s w.0) in
-    rw (a, e) (section_at n k (behind_section s) w.1 (omega arith) ∙ part_behind s (start_at ns k + 2) (start_at ns (k + 1)))

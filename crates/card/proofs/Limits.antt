@@ -1,5 +1,5 @@
 -- The limits of a card: its profile's first refusal, and the lengths of its texts.
-use Prim.Native.Nat.{ℕ, suc, ◌*◌, ◌≤◌}
+use Prim.Native.Nat.{ℕ, suc, ◌+◌, ◌*◌, ◌≤◌}
 use native.Mathlib.Omega.{arith}
 use mathlib.Core.Path.{◌≡◌, refl, sym, ap, ap₂, ◌∙◌}
 use mathlib.Core.List.{List, [], ◌∷◌, map}
@@ -7,6 +7,8 @@ use mathlib.Core.Bool.{Bool, true, false, ◌||◌, ◌&&◌}
 use lib.ListN.{length, take, drop, length-take, length-drop}
 use lib.Dec.{ltb, leb}
 use borrow.Author.Tests.{ltb-false, leb-true}
+use Rattle.std.proofs.Common.{Option, Some, None, Err}
+use Rattle.std.specs.Option.{ok_or}
 use Rattle.text.specs.declared.Refusal.{Refusal}
 use Rattle.text.specs.Limits.{longest_text}
 use Rattle.text.specs.Bytes.{Text, empty, all_of, any_of}
@@ -19,6 +21,11 @@ use Rattle.profile.proofs.Numbers.{profile_numbers}
 use Rattle.answers.specs.Answer.{sum, total, texts_in, refused, first_of}
 use Rattle.card.specs.Card.{longest_section}
 use Rattle.card.specs.Writing.{long_section}
+
+-- the fault that stands for a value that there is not
+pub ok_or_fault : {A E : Type 0} (o : Option A) (e f : E) → Err f ≡ ok_or o e → f ≡ e
+ok_or_fault None e f h = cc
+ok_or_fault (Some a) e f h = cc
 
 -- the first refusal has number 0 exactly where there is none
 none_first : (rs : List Refusal) → all_of has_number rs ≡ true → (first_refusal rs).number ≡ 0 → rs ≡ []
@@ -67,6 +74,11 @@ limited t h =
       variants = short_text t.variants _ (clear_if v 1 3 (nil_left (refused_if v 1 3) _ c));
       options = short_text t.options _ (clear_if o 1 4 (nil_right (refused_if v 1 3) _ c));
     }
+
+-- the four texts by another name, of a profile that is not refused
+pub small_texts : (u t : Texts) → u ≡ t → profile_refusals t ≡ [] →
+    length u.model + length u.layouts + length u.variants + length u.options ≤ 4096
+small_texts u t e h = let l = limited t h in rw e (omega (arith, l.model, l.layouts, l.variants, l.options))
 
 -- a card's refusals have numbers from 1 to 16 and places to 4
 pub numbered : Refusal → Bool

@@ -3,11 +3,10 @@ use Prim.Native.Nat.{ℕ, zero, suc, ◌+◌, ◌*◌, ◌≤◌}
 use native.Mathlib.Omega.{arith}
 use mathlib.Core.Path.{◌≡◌, refl, sym, ap, ◌∙◌}
 use mathlib.Core.List.{List, [], ◌∷◌, ◌++◌, map, append_assoc}
-use mathlib.Core.Bool.{false, not, ◌||◌}
+use mathlib.Core.Bool.{false, not}
 use lib.ListN.{length, take, drop, length-map}
 use lib.Seq.{take-append_seam, drop-append_seam, drop-drop}
-use lib.Dec.{ltb}
-use borrow.Author.Tests.{le-ltb, ltb-false}
+use borrow.Author.Tests.{le-ltb}
 use Rattle.text.specs.Bytes.{Text, empty, any_of}
 use Rattle.text.proofs.Lists.{no, neither, nil_left, nil_right}
 use Rattle.text.proofs.Numbers.{clear_if}
@@ -20,7 +19,7 @@ use Rattle.card.specs.Writing.{lent_texts, long_section, unwritable, write_refus
 use Rattle.card.specs.Reading.{texts_on, beyond, card_refusals, read_refusals, read_answer}
 use Rattle.card.proofs.Format.{sections_back, unbroken_back, card_back, sections_short, section_count_lem}
 use Rattle.card.proofs.Limits.{limited, lengths_in_lem, texts_count, texts_total, sum_short}
-use Rattle.card.proofs.Written.{answer_written}
+use Rattle.card.proofs.Written.{answer_written, able}
 use Rattle.card.proofs.Judged.{read_whole}
 
 pub profile_back : (t : Texts) (us : List Text) → card_profile (card_texts t us) ≡ t
@@ -50,15 +49,11 @@ module _ (room : ℕ) (t : Texts) (x : Text) (ns : List ℕ) (ts : List Text) (h
   unfolding write_refusals
   written_able = clear_if (unwritable room t x ns) 11 0 (nil_right (profile_refusals t) _ first.0)
 
-  able : (any_of long_section ns ≡ false) × (ltb (length x) (sum ns) || ltb room (length (card_of (lent_texts t x ns))) ≡ false)
-  unfolding unwritable
-  able = neither (any_of long_section ns) _ written_able
-
   pub written_sum : sum ns ≤ length x
-  written_sum = ltb-false (length x) (sum ns) (neither (ltb (length x) (sum ns)) _ able.1).0
+  written_sum = (able room t x ns written_able).1
 
   pub written_room : length (card_of ts) ≤ room
-  written_room = rw (written_texts) (ltb-false room _ (neither (ltb (length x) (sum ns)) _ able.1).1)
+  written_room = rw written_texts (able room t x ns written_able).2
 
   lent_short : any_of long_section (map length (lent_texts t x ns)) ≡ false
   unfolding lent_texts card_texts any_of long_section
@@ -68,14 +63,14 @@ module _ (room : ℕ) (t : Texts) (x : Text) (ns : List ℕ) (ts : List Text) (h
       let b : length t.layouts ≤ longest_section = omega (arith, l.layouts) in
       let c : length t.variants ≤ longest_section = omega (arith, l.variants) in
       let d : length t.options ≤ longest_section = omega (arith, l.options) in
-      rw (le-ltb longest_section _ a, le-ltb longest_section _ b, le-ltb longest_section _ c, le-ltb longest_section _ d, lengths_in_lem x ns written_sum) able.0
+      rw (le-ltb longest_section _ a, le-ltb longest_section _ b, le-ltb longest_section _ c, le-ltb longest_section _ d, lengths_in_lem x ns written_sum) (able room t x ns written_able).0
 
   -- ten lengths that fit a card, behind four texts within the limits
   pub written_few : length ns ≡ 10 → total ts ≤ 4096 + longest_section * 10
   unfolding lent_texts card_texts total sum
   written_few ten =
       let l = limited t written_profile in
-      let k = sum_short ns able.0 in
+      let k = sum_short ns (able room t x ns written_able).0 in
       rw written_texts (omega (arith, l.model, l.layouts, l.variants, l.options, texts_total x ns written_sum))
 
   -- "With room, reading back gives what was written"
@@ -120,10 +115,6 @@ module _ (room : ℕ) (s : Text) (ts : List Text) (h : read_answer room s ≡ ac
   sound : (broken section_count s ≡ false) × (beyond (texts_on s) ≡ false)
   unfolding read_refusals card_refusals
   sound = neither (broken section_count s) (beyond (texts_on s)) (clear_if _ 16 0 (nil_left (card_refusals s) _ read_first.0))
-
-  pub read_room : total ts ≤ room
-  unfolding read_refusals
-  read_room = rw read_texts_lem (ltb-false room (total (texts_on s)) (clear_if _ 11 0 (nil_right (card_refusals s) _ read_first.0)))
 
   pub read_profile_lem : profile_refusals (card_profile ts) ≡ []
   unfolding beyond

@@ -3,7 +3,6 @@
 use Rattle.std.specs.Prelude.{ℕ, zero, suc, ◌+◌, ◌*◌, ◌/◌, ◌%◌, ◌<◌, List, [], ◌∷◌, ◌++◌, Bool, not, ◌||◌, length, take, drop, get_or, ltb}
 use Rattle.text.specs.Bytes.{Text, empty, concat_map}
 use Rattle.profile.specs.Profile.{Texts}
-use Rattle.answers.specs.Answer.{sum}
 
 -- "each after its two-byte little-endian length": the longest length that two bytes hold
 abbrev pub longest_section : ℕ
@@ -38,6 +37,10 @@ section_length s = get_or s 0 0 + 256 * get_or s 1 0
 unfoldable pub cut_short : Text → Bool
 cut_short s = ltb (length s) (2 + section_length s)
 
+-- its text,
+abbrev pub section_text : Text → Text
+section_text s = take (section_length s) (drop 2 s)
+
 -- what stands behind it,
 unfoldable pub behind_section : Text → Text
 behind_section s = drop (2 + section_length s) s
@@ -45,16 +48,12 @@ behind_section s = drop (2 + section_length s) s
 -- the texts of n sections,
 unfoldable pub sections_in : ℕ → Text → List Text
 sections_in zero s = []
-sections_in (suc n) s = take (section_length s) (drop 2 s) ∷ sections_in n (behind_section s)
+sections_in (suc n) s = section_text s ∷ sections_in n (behind_section s)
 
 -- and whether a text is anything else than n sections: one is cut short, or something stands behind the last
 unfoldable pub broken : ℕ → Text → Bool
 broken zero s = not (empty s)
 broken (suc n) s = cut_short s || broken n (behind_section s)
-
--- where the section of the number k begins, by the lengths of those before it
-unfoldable pub start_at : List ℕ → ℕ → ℕ
-start_at ns k = 2 * k + sum (take k ns)
 
 -- Each byte is below 256. The lists of these definitions hold numbers; a lent slice holds bytes.
 abbrev pub Bytes : Text → Type 0

@@ -1,12 +1,12 @@
 -- A card that is read. Document 02, #102: "Reading puts the texts into the lent output in that order without gaps and returns their lengths".
-use Rattle.std.specs.Prelude.{ℕ, ◌≡◌, List, ◌++◌, map, Bool, true, false, not, ◌||◌, cond, length, replicate, ltb}
+use Rattle.std.specs.Prelude.{ℕ, ◌≡◌, List, [], ◌++◌, map, Bool, not, ◌||◌, length, ltb, Result, MatchResult}
 use Rattle.text.specs.declared.Refusal.{Refusal}
+use Rattle.text.specs.declared.faults.Fault.{Fault}
+use Rattle.text.specs.Told.{number_of}
 use Rattle.text.specs.Bytes.{Text, empty}
 use Rattle.text.specs.Refusals.{refused_if}
 use Rattle.profile.specs.Refusals.{profile_refusals}
-use Rattle.answers.specs.Answer.{total, Answer, refused, accepted, first_of, number_of, buffer_after}
-use Rattle.card.specs.declared.CardRead.{CardRead}
-use Rattle.card.specs.declared.Found.{Found}
+use Rattle.answers.specs.Answer.{total, Answer, refused, accepted, first_of, buffer_after}
 use Rattle.card.specs.Card.{section_count, card_profile, sections_in, broken}
 
 -- the fourteen texts of a card
@@ -32,25 +32,19 @@ judged s = first_of (card_refusals s) (texts_on s)
 unfoldable pub read_answer : ℕ → Text → Answer
 read_answer room s = first_of (read_refusals room s) (texts_on s)
 
--- the fourteen lengths; zeros at a refusal
-unfoldable pub card_lengths : Answer → List ℕ
-card_lengths (refused r) = replicate section_count 0
-card_lengths (accepted ts) = map length ts
+-- a card that is not refused by itself, and its fourteen texts
+pub record Clear (s : Text) (ts : List Text) : Type 0 where
+  pub clear : card_refusals s ≡ []
+  pub texts : ts ≡ texts_on s
 
-unfoldable pub read_of : Answer → CardRead
-read_of a = record { number = number_of a; lengths = card_lengths a }
+-- What a judgement is: the fourteen lengths of a card that is not refused by itself, or the fault of one that is.
+abbrev pub Judges : Text → Result (List ℕ) Fault → Type 0
+Judges s r =
+    MatchResult r (λ ns. (judged s ≡ accepted (texts_on s)) × (ns ≡ map length (texts_on s)))
+    (λ f. judged s ≡ refused (record { number = number_of f; place = 0 }))
 
--- what a search for the fourteen sections finds
-unfoldable pub found_in : Text → Found
-found_in s =
-    cond (broken section_count s) (record { broken = true; lengths = replicate section_count 0 }) (record { broken = false; lengths = map length (texts_on s) })
-
--- the lengths of a card's sections, where it is not broken
-pub record Sectioned (s : Text) (ns : List ℕ) : Type 0 where
-  pub whole : broken section_count s ≡ false
-  pub lengths : ns ≡ map length (texts_on s)
-
--- What a reading is: of a card s it makes the answer r, and the buffer goes from d to d'.
-pub record Reads (s d d' : Text) (r : CardRead) : Type 0 where
-  pub result : r ≡ read_of (read_answer (length d) s)
+-- What a reading is: of a card s it makes the result r, fourteen lengths or a fault, and the buffer goes from d to d'.
+pub record Reads (s d d' : Text) (r : Result (List ℕ) Fault) : Type 0 where
+  pub result : MatchResult r (λ ns. (read_answer (length d) s ≡ accepted (texts_on s)) × (ns ≡ map length (texts_on s)))
+      (λ f. read_answer (length d) s ≡ refused (record { number = number_of f; place = 0 }))
   pub buffer : d' ≡ buffer_after d (read_answer (length d) s)

@@ -1,13 +1,14 @@
 -- A card that is written. Document 02, #102. Lent are the four texts t of a profile, a slice x of texts, ten lengths ns of texts in it, and a buffer.
-use Rattle.std.specs.Prelude.{ℕ, ◌+◌, ◌≤◌, ◌≡◌, List, ◌++◌, Bool, ◌||◌, length, drop, ltb}
+use Rattle.std.specs.Prelude.{ℕ, ◌+◌, ◌≤◌, ◌≡◌, List, ◌++◌, Bool, ◌||◌, length, drop, ltb, Result, MatchResult}
 use Rattle.text.specs.declared.Refusal.{Refusal}
+use Rattle.text.specs.declared.faults.Refusal.{Refusal as Refused}
+use Rattle.text.specs.Told.{told_refusal}
 use Rattle.text.specs.Limits.{longest_text}
 use Rattle.text.specs.Bytes.{Text, any_of}
 use Rattle.text.specs.Refusals.{refused_if}
 use Rattle.profile.specs.Profile.{Texts}
 use Rattle.profile.specs.Refusals.{profile_refusals}
-use Rattle.answers.specs.Answer.{sum, texts_in, Answer, refused, accepted, first_of, number_of, place_of}
-use Rattle.card.specs.declared.CardWritten.{CardWritten}
+use Rattle.answers.specs.Answer.{sum, texts_in, Answer, refused, accepted, first_of}
 use Rattle.card.specs.Card.{longest_section, card_of, card_texts}
 
 -- the fourteen texts: bytes behind the lengths' sum are ignored
@@ -30,22 +31,16 @@ write_refusals room t x ns = profile_refusals t ++ refused_if (unwritable room t
 unfoldable pub write_answer : ℕ → Texts → Text → List ℕ → Answer
 write_answer room t x ns = first_of (write_refusals room t x ns) (lent_texts t x ns)
 
--- the length of the card; 0 where none is written
-unfoldable pub card_length : Answer → ℕ
-card_length (refused r) = 0
-card_length (accepted ts) = length (card_of ts)
-
 -- "bytes behind what is written, and on a refusal all, are untouched"
 unfoldable pub card_after : Text → Answer → Text
 card_after d (refused r) = d
 card_after d (accepted ts) = card_of ts ++ drop (length (card_of ts)) d
 
-unfoldable pub written_of : Answer → CardWritten
-written_of a = record { number = number_of a; place = place_of a; length = card_length a }
-
--- What a writing is: of what it is lent it makes the answer r, and the buffer goes from d to d'.
-pub record Writes (t : Texts) (x : Text) (ns : List ℕ) (d d' : Text) (r : CardWritten) : Type 0 where
-  pub result : r ≡ written_of (write_answer (length d) t x ns)
+-- What a writing is: of what it is lent it makes the result r, the length of the card or the first refusal, and the buffer goes from d to d'.
+pub record Writes (t : Texts) (x : Text) (ns : List ℕ) (d d' : Text) (r : Result ℕ Refused) : Type 0 where
+  pub result : MatchResult r
+      (λ n. (write_answer (length d) t x ns ≡ accepted (lent_texts t x ns)) × (n ≡ length (card_of (lent_texts t x ns))))
+      (λ e. write_answer (length d) t x ns ≡ refused (told_refusal e))
   pub card : d' ≡ card_after d (write_answer (length d) t x ns)
 
 -- four texts that a card of this room has place for at its start

@@ -1,68 +1,61 @@
 // A file resolved for the empty profile, over many files: standard input holds them with a line `====` between two. Then on files of 65,536 and 65,537 blanks.
 #![tactic(auto)]
 
-ghost use Rattle.std.specs.Prelude.{◌≡◌};
+ghost use Rattle.std.specs.Prelude.{◌≡◌, ◌≤◌, length};
 ghost use Rattle.file_cases.specs.Cases.{starts, separates, CaseEnd};
 
+use profile::texts::Texts;
 use resolver::resolving::measure;
-use rules::headings::begins;
-use rules::percent::{byte_at, tail};
 use standard_input::read_full;
 use std::io;
 
 // Whether a line starts at a place.
 fn starts_line(s: &[u8], at: usize) -> bool
+    requires { at ≤ length s.now }
     ensures { result ≡ starts s.now at }
 {
-    if at == 0 {
-        return true;
-    }
-    byte_at(s, at - 1) == 10
+    at == 0 || s[at - 1] == b'\n'
 }
 
 fn is_separator(s: &[u8], at: usize) -> bool
+    requires { at ≤ length s.now }
     ensures { result ≡ separates s.now at }
 {
-    if !starts_line(s, at) {
-        return false;
-    }
-    begins(tail(s, at), b"====\n")
+    starts_line(s, at) && s[at..].starts_with(b"====\n")
 }
 
 // Where the first file ends: before the first separator, or with the text.
 fn case_end(s: &[u8]) -> usize
     ensures { CaseEnd s.now result }
 {
-    let mut i: usize = 0;
-    while i < s.len() {
-        if is_separator(s, i) {
-            return i;
-        }
-        i += 1;
-    }
-    i
+    (0..s.len())
+        .find(|at| is_separator(s, *at))
+        .unwrap_or(s.len())
 }
 
 // One file: `refused 6 at 2`, or `accepted`.
 fn report(rt: &HostRuntime, file: &[u8]) -> io::Result<()> {
-    let r = measure(file, b"", b"", b"", b"", 1048576);
-    if r.number == 0 {
-        println!(rt; "accepted")?;
-        return Ok(());
+    let empty = Texts {
+        model: &[],
+        layouts: &[],
+        variants: &[],
+        options: &[],
+    };
+    match measure(file, &empty, 1048576) {
+        Ok(_) => println!(rt; "accepted"),
+        Err(refusal) => println!(rt; "refused {} at {}", refusal.fault.number(), refusal.place),
     }
-    println!(rt; "refused {} at {}", r.number, r.place)
 }
 
-fn report_all(rt: &HostRuntime, s: &[u8]) -> io::Result<()> {
-    let mut from: usize = 0;
+fn report_all(rt: &HostRuntime, files: &[u8]) -> io::Result<()> {
+    let mut rest = files;
     loop {
-        let rest = &s[from..];
-        let end = case_end(rest);
-        report(rt, &rest[0..end])?;
-        if rest.len() - end < 5 {
+        let (file, more) = rest.split_at(case_end(rest));
+        report(rt, file)?;
+        let Some(next) = more.strip_prefix(b"====\n") else {
             return Ok(());
-        }
-        from = from + end + 5;
+        };
+        rest = next;
     }
 }
 

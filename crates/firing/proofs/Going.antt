@@ -7,6 +7,7 @@ use mathlib.Core.List.{List, [], ◌∷◌, ◌++◌}
 use lib.ListN.{length, get_or, set}
 use lib.Dec.{ltb}
 use borrow.Author.Tests.{lt-ltb, le-ltb}
+use Rattle.std.specs.Int.{from_bool}
 use Rattle.text.specs.Limits.{longest_total}
 use Rattle.text.specs.Bytes.{Text, empty}
 use Rattle.output.specs.Store.{stored, farthest, past, Wrote}
@@ -150,6 +151,11 @@ module _ (c : ℕ) (v d : Text) (q : Cursors) where
             bytes = λ l k. w.bytes ∙ rw (one_fires l k c v e, run_buf_lem, not_full q room, z, g, b, run_buf_nil);
             places = λ l k. rw (w.places, one_fires l k c v e, run_cur_lem, not_full q room, z, g, b, run_cur_nil);
           }
+
+-- the region by a sum
+pub region_is : (c n : ℕ) (b : Bool) → n ≡ from_bool b → 2 * c + n ≡ cond b (2 * c + 1) (2 * c)
+region_is c n true e = omega arith
+region_is c n false e = omega arith
 
 -- there are ten regions
 pub region_low : (c r : ℕ) (s : Bool) → c ≤ 4 → r ≡ cond s (2 * c + 1) (2 * c) → r < 10

@@ -7,3 +7,4 @@ pub mod Going
 pub mod Placing
 pub mod Beginnings
 pub mod ValueFires
+pub mod Pairs

@@ -3,11 +3,11 @@ use Prim.Native.Nat.{ℕ, zero, suc, ◌+◌, ◌-◌, ◌*◌, ◌≤◌, ◌<�
 use native.Mathlib.Omega.{arith}
 use native.Mathlib.Numerals.{add-one}
 use mathlib.Core.Path.{◌≡◌, refl, sym, ap, ◌∙◌}
-use mathlib.Core.Bool.{true, false}
+use mathlib.Core.Bool.{Bool, true, ◌&&◌}
+use Rattle.std.specs.List.{list_all}
 use mathlib.Core.List.{List, [], ◌∷◌, ◌++◌, map, append-nil, append_assoc}
 use lib.ListN.{length, take, drop, get_or, set, length-set, drop_of_length-le}
 use lib.Seq.{take-suc-set, drop-cons, take_all}
-use borrow.Author.Tests.{le-leb, lt-leb}
 use Rattle.text.specs.Bytes.{Text, part, all_of}
 use Rattle.text.proofs.Positions.{length_part}
 use Rattle.output.specs.Store.{stored}
@@ -56,19 +56,11 @@ module _ (ps es : List ℕ) where
   counting_end ns i l h v =
       sym ((rw (none ps i (omega arith)) at v.counted) ∙ rw (append-nil, take_all i ns (omega (arith, v.size))))
 
--- `in_regions`
-module _ (ns : List ℕ) (i : ℕ) where
-  pub in_more : i < length ns → get_or ns i 0 ≤ region_size → in_regions (drop i ns) ≡ in_regions (drop (i + 1) ns)
-  unfolding in_regions all_of
-  in_more l h = rw (more ns i l, le-leb (get_or ns i 0) region_size h)
-
-  pub in_not : i < length ns → region_size < get_or ns i 0 → in_regions (drop i ns) ≡ false
-  unfolding in_regions all_of
-  in_not l h = rw (more ns i l, lt-leb (get_or ns i 0) region_size h)
-
-  pub in_end : length ns ≤ i → in_regions (drop i ns) ≡ true
-  unfolding in_regions all_of
-  in_end h = rw (none ns i h)
+-- `in_regions`: `all_of` is std's
+pub all_listed : {A : Type 0} (q : A → Bool) (xs : List A) → list_all q xs ≡ all_of q xs
+unfolding all_of
+all_listed q [] = refl
+all_listed q (x ∷ xs) = ap (λ (b : Bool). q x && b) (all_listed q xs)
 
 in_at : (ns : List ℕ) (i : ℕ) → in_regions ns ≡ true → i < length ns → get_or ns i 0 ≤ region_size
 in_at [] i h l = absurd (omega arith)
@@ -97,32 +89,32 @@ texts_end : (k : ℕ) (s : Text) (ns : List ℕ) (i : ℕ) → length ns ≤ i �
 unfolding texts_at joined
 texts_end k s ns i h = rw (none ns i h)
 
-pub record Copying (s : Text) (ns : List ℕ) (d₀ d : Text) (start at i : ℕ) : Type 0 where
+pub record Copying (s : Text) (ns : List ℕ) (d₀ d : Text) (at i : ℕ) : Type 0 where
   pub size : length d ≡ length d₀
-  pub region : start ≡ i * region_size
   pub room : at + sum (drop i ns) ≡ sum ns
-  pub bytes : stored d₀ 0 (joined (texts_at 0 s ns)) ≡ stored d at (joined (texts_at start s (drop i ns)))
+  pub bytes : stored d₀ 0 (joined (texts_at 0 s ns)) ≡ stored d at (joined (texts_at (region_size * i) s (drop i ns)))
 
 module _ (s : Text) (ns : List ℕ) (d₀ : Text) where
-  pub copying_none : Copying s ns d₀ d₀ 0 0 0
-  copying_none = record { size = refl; region = omega arith; room = omega arith; bytes = refl }
+  pub copying_none : Copying s ns d₀ d₀ 0 0
+  copying_none = record { size = refl; room = omega arith; bytes = refl }
 
-  module _ (d : Text) (start at i : ℕ) (v : Copying s ns d₀ d start at i) where
-    pub copying_inside : in_regions ns ≡ true → length ns * region_size ≤ length s → i < length ns → start + get_or ns i 0 ≤ length s
-    copying_inside h m l = omega (arith, in_at ns i h l, v.region)
+  module _ (d : Text) (at i : ℕ) (v : Copying s ns d₀ d at i) where
+    pub copying_inside : in_regions ns ≡ true → length ns * region_size ≤ length s → i < length ns → region_size * i + get_or ns i 0 ≤ length s
+    copying_inside h m l = omega (arith, in_at ns i h l)
 
     pub copying_room : sum ns ≤ length d₀ → i < length ns → get_or ns i 0 ≤ length d - at
     copying_room h l = omega (arith, sum_more ns i l, v.size, v.room)
 
-    pub copying_more : (d' : Text) (n : ℕ) → i < length ns → n ≡ get_or ns i 0 → start + n ≤ length s → d' ≡ stored d at (part s start (start + n)) →
-        Copying s ns d₀ d' (start + region_size) (at + n) (i + 1)
+    pub copying_more : (d' : Text) (n : ℕ) → i < length ns → n ≡ get_or ns i 0 → region_size * i + n ≤ length s →
+        d' ≡ stored d at (part s (region_size * i) (region_size * i + n)) → Copying s ns d₀ d' (at + n) (i + 1)
     copying_more d' n l e h g =
+        let start = region_size * i in
+        let z : region_size * (i + 1) ≡ start + region_size = omega arith in
         let k : length (part s start (start + n)) ≡ n = length_part s start (start + n) h ∙ omega arith in
         record {
           size = ap length g ∙ length_stored d at (part s start (start + n)) ∙ v.size;
-          region = omega (arith, v.region);
           room = omega (arith, sum_more ns i l, v.room);
-          bytes = v.bytes ∙ rw (texts_more start s ns i l, ← e, stored_append, k, ← g) refl;
+          bytes = v.bytes ∙ rw (z, texts_more start s ns i l, ← e, stored_append, k, ← g) refl;
         }
 
     pub copying_end : in_regions ns ≡ true → length ns * region_size ≤ length s → sum ns ≤ length d₀ → length ns ≤ i →
@@ -132,5 +124,5 @@ module _ (s : Text) (ns : List ℕ) (d₀ : Text) where
         let t = joined (texts_at 0 s ns) in
         let e : total (texts_at 0 s ns) ≡ sum ns = ap sum (lengths_at 0 s ns h (omega arith)) in
         let n : length t ≡ total (texts_at 0 s ns) = joined_length (texts_at 0 s ns) in
-        let b : stored d₀ 0 t ≡ d = v.bytes ∙ rw (texts_end start s ns i z, stored_none) in
+        let b : stored d₀ 0 t ≡ d = v.bytes ∙ rw (texts_end (region_size * i) s ns i z, stored_none) in
         sym b ∙ stored_front d₀ t (omega arith) ∙ rw n

@@ -1,5 +1,5 @@
 -- A value made and fired; the values of a rule.
-use Prim.Native.Nat.{ℕ, zero, suc, ◌+◌, ◌-◌, ◌≤◌, ◌<◌}
+use Prim.Native.Nat.{ℕ, zero, suc, ◌+◌, ◌≤◌, ◌<◌}
 use native.Mathlib.Omega.{arith}
 use native.Mathlib.Numerals.{add-one}
 use mathlib.Core.Path.{◌≡◌, refl, sym, ap, ◌∙◌}
@@ -23,14 +23,12 @@ use Rattle.values.proofs.Profiles.{expanded_by}
 use Rattle.firing.specs.declared.Cursors.{Cursors}
 use Rattle.answers.specs.Firings.{fired, rule_fires}
 use Rattle.firing.specs.Writing.{FiredOne, Low, run_buf, run_cur, ShortWords, FiredRule, BehindFirst}
-use Rattle.firing.specs.Line.{Fires, RightWords}
+use Rattle.firing.specs.Rule.{Fires, RightWords}
 use Rattle.firing.proofs.Going.{Going, going_start, going_more, going_end}
 
 pub value_fired : (p : Profile) (n k : ℕ) (x a b : Text) (r : ℕ) (d d' : Text) (q q' : Cursors) (c : ℕ) → n ≡ layout_count p →
-    Filled a b (filled p k x) r → FiredOne d d' q q' c (concat_map (spread n) (cuts (take (r - 0) b))) → FiredOne d d' q q' c (expanded p k x)
-value_fired p n k x a b r d d' q q' c e h f =
-    let z : r - 0 ≡ r = omega arith in
-    rw (expanded_by p k n x (take (r - 0) b) e (rw z h.text)) at f
+    Filled a b (filled p k x) r → FiredOne d d' q q' c (concat_map (spread n) (cuts (take r b))) → FiredOne d d' q q' c (expanded p k x)
+value_fired p n k x a b r d d' q q' c e h f = rw (expanded_by p k n x (take r b) e h.text) at f
 
 fires_cons : (p : Profile) (l k c : ℕ) (cs : List ℕ) (w : Text) (ws : Words) →
     rule_fires p l k (c ∷ cs) (w ∷ ws) ≡ fired l k c (expanded p k w) ++ rule_fires p l k cs ws
@@ -145,13 +143,13 @@ module _ (p p' : Profile) (k : ℕ) (same : (w : Text) → expanded p k w ≡ ex
 
 -- one word after the other, and the right words of a rule
 
-pub fires_again : (s : Text) (b : List ℕ) (n k : ℕ) (x x' d d' : Text) (q q' : Cursors) → Fires s b n k x d q → length x' ≡ length x → length d' ≡ length d →
-    Low q'.at → Fires s b n k x' d' q'
-fires_again s b n k x x' d d' q q' f e g low =
+pub fires_again : (n k : ℕ) (x x' d d' : Text) (q q' : Cursors) → Fires n k x d q → length x' ≡ length x → length d' ≡ length d → Low q'.at →
+    Fires n k x' d' q'
+fires_again n k x x' d d' q q' f e g low =
     record {
-      expands = f.expands;
       some = f.some;
       digit = f.digit;
+      layout = f.layout;
       room = omega (arith, f.room);
       scratch = omega (arith, f.scratch);
       buf = omega (arith, f.buf);

@@ -1,3 +1,4 @@
 pub mod Writing
 pub mod Stage
+pub mod Rule
 pub mod Line

@@ -2,6 +2,7 @@
 #![tactic(auto)]
 
 pub mod line;
+pub mod rule;
 pub mod stage;
 pub mod writing;
 
@@ -24,7 +25,7 @@ pub struct Sums {
     pub total: u32,
 }
 
-// The right side of a set's rules at a layout: the components, which are `count`, the layout count n and the matched layout k.
+// The right side as `line::fire_line` takes it, with the layout count n.
 #[derive(Clone, Copy)]
 pub struct RightSide {
     pub count: usize,

@@ -5,7 +5,7 @@ ghost use Rattle.firing.specs.Stage.{stage_size, in_regions, texts_at, between, 
 
 use output::{copy, wide};
 
-// Where the regions start, each of 1,024 bytes.
+// Where the regions start, each of 512 bytes.
 pub const REGIONS: [u32; 10] = [0, 512, 1024, 1536, 2048, 2560, 3072, 3584, 4096, 4608];
 
 // The lengths of ten texts that go from these starts to these ends.
@@ -14,10 +14,8 @@ pub fn lengths_between(starts: [u32; 10], ends: [u32; 10]) -> [u32; 10]
     ensures { result ≡ between starts ends }
 {
     let mut lengths: [u32; 10] = [0; 10];
-    let mut i: usize = 0;
-    while i < 10 {
+    for i in 0..10 {
         lengths[i] = ends[i] - starts[i];
-        i += 1;
     }
     lengths
 }
@@ -26,14 +24,7 @@ pub fn lengths_between(starts: [u32; 10], ends: [u32; 10]) -> [u32; 10]
 pub fn in_regions(lengths: [u32; 10]) -> bool
     ensures { result ≡ in_regions lengths }
 {
-    let mut i: usize = 0;
-    while i < 10 {
-        if 512 < lengths[i] {
-            return false;
-        }
-        i += 1;
-    }
-    true
+    lengths.iter().all(|n| *n <= 512)
 }
 
 // The ten texts of a stage, copied to the start of the buffer one after the other.
@@ -41,14 +32,11 @@ pub fn copy_texts(stage: &[u8], lengths: [u32; 10], buf: &mut [u8])
     requires { (length stage.now ≡ stage_size) × (in_regions lengths ≡ true) × (sum lengths ≤ length buf.old) }
     ensures { buf.new ≡ buffer_after buf.old (accepted (texts_at 0 stage.now lengths)) }
 {
-    let mut start: usize = 0;
     let mut at: usize = 0;
-    let mut i: usize = 0;
-    while i < 10 {
-        let n = wide(lengths[i]);
+    for (i, n) in lengths.iter().enumerate() {
+        let n = wide(*n);
+        let start = 512 * i;
         copy(stage, start, start + n, buf, at);
-        start += 512;
         at += n;
-        i += 1;
     }
 }

@@ -15,10 +15,7 @@ fn region(component: usize, addition: bool) -> usize
     requires { component ≤ 4 }
     ensures { result ≡ cond addition (2 * component + 1) (2 * component) }
 {
-    if addition {
-        return 2 * component + 1;
-    }
-    2 * component
+    2 * component + usize::from(addition)
 }
 
 // A value of a component fires: `t` is its text with the profile's values put in, `n` the number of layouts.
@@ -30,7 +27,7 @@ pub fn fire(t: &[u8], n: usize, component: usize, buf: &mut [u8], q: Cursors) ->
     if 4 < component {
         return next;
     }
-    if t.len() == 0 {
+    if t.is_empty() {
         return next;
     }
     let addition = is_signed(t);
@@ -39,9 +36,9 @@ pub fn fire(t: &[u8], n: usize, component: usize, buf: &mut [u8], q: Cursors) ->
     }
     let r = region(component, addition);
     let from = next.at[r];
-    let p = put_spread(t, n, buf, from);
-    next.at[r] = p;
-    next.total += p - from;
+    let end = put_spread(t, n, buf, from);
+    next.at[r] = end;
+    next.total += end - from;
     if addition {
         return next;
     }
@@ -56,11 +53,9 @@ pub fn places(lengths: [u32; 10]) -> Sums
 {
     let mut at: [u32; 10] = [0; 10];
     let mut total: u32 = 0;
-    let mut i: usize = 0;
-    while i < 10 {
+    for (i, n) in lengths.iter().enumerate() {
         at[i] = total;
-        total += lengths[i];
-        i += 1;
+        total += *n;
     }
     Sums { at, total }
 }

@@ -1,12 +1,19 @@
 -- A group line: its words one by one, and the line as a whole.
 use Prim.Native.Nat.{ℕ, ◌≤◌, ◌<◌}
 use native.Mathlib.Omega.{arith}
-use mathlib.Core.Path.{◌≡◌, refl, sym, ◌∙◌}
-use mathlib.Core.List.{List, [], ◌∷◌}
+use mathlib.Core.Path.{◌≡◌, refl, sym, ap, ◌∙◌}
+use mathlib.Core.List.{[], ◌∷◌}
 use mathlib.Core.Bool.{Bool, true, false, ◌&&◌, cond}
 use lib.ListN.{length, get_or}
 use lib.Dec.{eqb}
-use borrow.Author.Tests.{eq-eqb, ne_eqb, eqb-true, eqb-false}
+use Rattle.std.specs.Prelude.{Option, Some, None}
+use Rattle.std.specs.Option.{option_or}
+use Rattle.std.proofs.lemmas.Option.{same_Some}
+use Rattle.text.specs.declared.faults.Fault.{Fault}
+use Rattle.text.specs.declared.faults.Fault.TheVariants.{BadLine}
+use Rattle.text.specs.Told.{number_of, fault_number}
+use Rattle.text.proofs.Told.{number_some}
+use borrow.Author.Tests.{eq-eqb, ne_eqb}
 use Rattle.text.specs.Bytes.{Text, Words, first, rest, part, all_of}
 use Rattle.text.specs.Words.{words_fault}
 use Rattle.text.specs.Reading.{left, lower, FoundWord, NoWord}
@@ -16,11 +23,12 @@ use Rattle.text.proofs.Readers.{fault_cons, fault_nil, lower_none, lower_zero, l
 use Rattle.rules.specs.Words.{is_equals, has_dollar, is_group_name, ordinary}
 use Rattle.rules.specs.Entries.{Entry, wrong, group, group_entry, heading_entry, entry_of}
 use Rattle.rules.specs.Checking.{line_of}
+use Rattle.names.specs.declared.table.Table.{Table}
 use Rattle.names.specs.Compiled.{Joined}
 use Rattle.names.proofs.Joining.{says_none}
 use Rattle.judging.specs.declared.FirstWord.{FirstWord}
 use Rattle.judging.specs.declared.Members.{Members}
-use Rattle.judging.specs.Groups.{FirstWordAt, DollarWord, MembersOf, group_fault, line_words, members_in, GroupLineOf}
+use Rattle.judging.specs.Groups.{DollarFound, FirstWordAt, DollarWord, MembersOf, line_words, members_in, GroupLineOf}
 
 -- the first word
 
@@ -40,22 +48,20 @@ none_dollar : (s : Text) (from : ℕ) → left s from ≡ [] → has_dollar (get
 unfolding has_dollar first
 none_dollar s from e = rw e refl
 
-pub first_found : (s : Text) (from m a e l f : ℕ) → FoundWord s from m a e l f →
-    FirstWordAt s from m (record { dollar = eqb (get_or s a 0) 36; start = a; end = e; line = l; fault = f })
-first_found s from m a e l f u =
-    record {
-      word = λ h. u;
-      yes = λ h. dollar_yes s a e u.some u.high (eqb-true (get_or s a 0) 36 h);
-      no = λ h. rw u.text (dollar_no s a e u.some u.high (eqb-false (get_or s a 0) 36 h));
-    }
+pub first_found : (s : Text) (from m a e l : ℕ) (f : Option Fault) → FoundWord s from m a e l (fault_number f) → get_or s a 0 ≡ 36 →
+    FirstWordAt s from m (Some (record { start = a; end = record { at = e; line = l }; fault = f }))
+first_found s from m a e l f u z = record { word = u; yes = dollar_yes s a e u.some u.high z }
 
-pub first_none : (s : Text) (from m : ℕ) → left s from ≡ [] → FirstWordAt s from m (record { dollar = false; start = from; end = from; line = m; fault = 0 })
-first_none s from m e = record { word = λ h. absurd (no h); yes = λ h. absurd (no h); no = λ h. none_dollar s from e }
+pub first_other : (s : Text) (from m a e l f : ℕ) → FoundWord s from m a e l f → (get_or s a 0 ≡ 36 → ⊥) → FirstWordAt s from m None
+first_other s from m a e l f u z = rw u.text (dollar_no s a e u.some u.high z)
 
-pub dollar_word : (s : Text) (from n : ℕ) (x : FirstWord) → FirstWordAt s from n x → x.dollar ≡ true → DollarWord s x
-dollar_word s from n x v h =
-    let u = v.word h in
-    record { some = u.some; high = u.high; few = u.few; fault = u.fault; yes = v.yes h }
+pub first_none : (s : Text) (from m : ℕ) → left s from ≡ [] → FirstWordAt s from m None
+first_none s from m e = none_dollar s from e
+
+pub dollar_word : (s : Text) (from n : ℕ) (x : FirstWord) → DollarFound s from n x → DollarWord s x
+dollar_word s from n x v =
+    let u = v.word in
+    record { some = u.some; high = u.high; few = u.few; fault = u.fault; yes = v.yes }
 
 -- the words behind the `=`
 
@@ -107,74 +113,71 @@ lone_line : (n : Text) → has_dollar n ≡ true → entry_of (line_of 0 true (n
 unfolding entry_of heading_entry group_entry
 lone_line n h = rw h refl
 
-six : ◌≡◌ {A = ℕ} 6 0 → ⊥
-six z = omega arith
+-- a line's fault is that of its words, or that it is no group line
+pub record Told (e y : Entry) (good : Bool) (r : Option Fault) : Type 0 where
+  pub wrong_is : (k : Fault) → r ≡ Some k → e ≡ wrong (number_of k)
+  pub right_is : r ≡ None → (e ≡ y) × (good ≡ true)
 
--- a refusal by `group_fault` is that of the line
-record Told (e y : Entry) (good : Bool) (r : ℕ) : Type 0 where
-  pub wrong_is : (r ≡ 0 → ⊥) → e ≡ wrong r
-  pub right_is : r ≡ 0 → (e ≡ y) × (good ≡ true)
-
-told : (f : ℕ) (good : Bool) (e y : Entry) (r : ℕ) → e ≡ cond (eqb f 0) (cond good y (wrong 6)) (wrong f) → r ≡ group_fault f good → Told e y good r
-unfolding group_fault
-told f good e y r h k = go (eqb f 0) good refl h k
+told : (f : Option Fault) (good : Bool) (e y : Entry) (r : Option Fault) → e ≡ cond (eqb (fault_number f) 0) (cond good y (wrong 6)) (wrong (fault_number f)) →
+    r ≡ cond good f (option_or f (Some BadLine)) → Told e y good r
+told None true e y r h k = record { wrong_is = λ q z. cc; right_is = λ z. (h, refl) }
+told None false e y r h k = record { wrong_is = λ q z. h ∙ ap (λ (i : Fault). wrong (number_of i)) (same_Some _ _ (sym k ∙ z)); right_is = λ z. cc }
+told (Some g) good e y r h k =
+    let p : e ≡ wrong (number_of g) = rw (ne_eqb (number_of g) 0 (number_some g)) at h in
+    let q : r ≡ Some g = k ∙ either good in
+    record { wrong_is = λ i z. p ∙ ap (λ (i : Fault). wrong (number_of i)) (same_Some _ _ (sym q ∙ z)); right_is = λ z. cc }
   where
-    go : (a b : Bool) → eqb f 0 ≡ a → e ≡ cond a (cond b y (wrong 6)) (wrong f) → r ≡ cond a (cond b 0 6) f → Told e y b r
-    go true true z p q = record { wrong_is = λ n. absurd (n q); right_is = λ n. (p, refl) }
-    go true false z p q = record { wrong_is = λ n. rw q p; right_is = λ n. absurd (six (sym q ∙ n)) }
-    go false b z p q = record { wrong_is = λ n. rw q p; right_is = λ n. absurd (eqb-false f 0 z (sym q ∙ n)) }
+    either : (b : Bool) → cond b (Some g) (option_or (Some g) (Some BadLine)) ≡ Some g
+    either true = refl
+    either false = refl
 
-no_members : (d : Text) (t rows : List ℕ) (flags : List Bool) (count : ℕ) → Joined d t rows flags count [] (record { layouts = 0; variants = 0 })
-no_members d t rows flags count = record { means = λ q n v k c a b. says_none k c ∙ sym (any_nil (q k c)) }
+no_members : (t : Table) → Joined t [] (record { layouts = 0; variants = 0 })
+no_members t = record { means = λ q n v k c a b. says_none k c ∙ sym (any_nil (q k c)) }
 
-module _ (s : Text) (x : FirstWord) (w : DollarWord s x) (d : Text) (t rows : List ℕ) (flags : List Bool) (count : ℕ) where
-  pub group_none : (p m r : ℕ) → NoWord s x.end x.line p m → r ≡ group_fault x.fault false →
-      GroupLineOf s x d t rows flags count (record { fault = r; row = record { layouts = 0; variants = 0 }; next = p; after = m })
+module _ (s : Text) (x : FirstWord) (w : DollarWord s x) (t : Table) where
+  pub group_none : (p m : ℕ) (r : Option Fault) → NoWord s x.end.at x.end.line p m → r ≡ option_or x.fault (Some BadLine) →
+      GroupLineOf s x t (record { fault = r; row = record { layouts = 0; variants = 0 }; next = record { at = p; line = m } })
   group_none p m r u k =
-      let f : x.fault ≡ words_fault (part s x.start x.end ∷ []) = w.fault ∙ sym (fault_cons (part s x.start x.end) [] ∙ rw fault_nil (lower_none _)) in
-      let e : entry_of (line_of 0 true (line_words s x)) ≡ cond (eqb x.fault 0) (wrong 6) (wrong x.fault) = rw (u.none, f) (lone_line (part s x.start x.end) w.yes) in
+      let f : fault_number x.fault ≡ words_fault (part s x.start x.end.at ∷ []) = w.fault ∙ sym (fault_cons (part s x.start x.end.at) [] ∙ rw fault_nil (lower_none _)) in
+      let e : entry_of (line_of 0 true (line_words s x)) ≡ cond (eqb (fault_number x.fault) 0) (wrong 6) (wrong (fault_number x.fault)) =
+      rw (u.none, f) (lone_line (part s x.start x.end.at) w.yes) in
       let v = told x.fault false _ (wrong 6) r e k in
-      let j : Joined d t rows flags count (members_in s x) (record { layouts = 0; variants = 0 }) = rw u.none (no_members d t rows flags count) in
+      let j : Joined t (members_in s x) (record { layouts = 0; variants = 0 }) = rw u.none (no_members t) in
       record {
         wrong = v.wrong_is;
         right = λ z. absurd (no (v.right_is z).1);
         joined = j;
-        onto = u.onto;
         on = u.low;
-        onwards = u.onwards;
-        high = u.high;
-        few = u.few;
+        passed = record { onwards = u.onwards; high = u.high; few = u.few; onto = u.onto };
       }
 
-  module _ (a e l f : ℕ) (u : FoundWord s x.end x.line a e l f) (ms : Members) (v : MembersOf s e l d t rows flags count ms) where
+  module _ (a e l : ℕ) (f : Option Fault) (u : FoundWord s x.end.at x.end.line a e l (fault_number f)) (ms : Members) (v : MembersOf s e l t ms) where
     members_are : members_in s x ≡ left s e
     members_are = rw u.text refl
 
-    fault_is : lower (lower x.fault f) ms.fault ≡ words_fault (part s x.start x.end ∷ part s a e ∷ left s e)
+    fault_is : lower (lower (fault_number x.fault) (fault_number f)) (fault_number ms.fault) ≡ words_fault (part s x.start x.end.at ∷ part s a e ∷ left s e)
     fault_is =
-        sym (fault_cons (part s x.start x.end) (part s a e ∷ left s e)
-        ∙ rw (fault_cons (part s a e) (left s e), ← w.fault, ← u.fault, ← v.fault) (lower_assoc x.fault f ms.fault))
+        sym (fault_cons (part s x.start x.end.at) (part s a e ∷ left s e)
+        ∙ rw (fault_cons (part s a e) (left s e), ← w.fault, ← u.fault, ← v.fault) (lower_assoc (fault_number x.fault) (fault_number f) (fault_number ms.fault)))
 
-    line_is : (g : Bool) → g ≡ (is_group_name (part s x.start x.end) && (is_equals (part s a e) && ms.ordinary)) → entry_of (line_of 0 true (line_words s x)) ≡
-        cond (eqb (lower (lower x.fault f) ms.fault) 0) (cond g (group (rest (part s x.start x.end)) (left s e)) (wrong 6)) (wrong (lower (lower x.fault f) ms.fault))
-    line_is g h = rw (u.text, fault_is, h, v.ordinary) (some_line (part s x.start x.end) (part s a e) (left s e) w.yes)
-
-    pub group_some : (g : Bool) (r : ℕ) → g ≡ (is_group_name (part s x.start x.end) && (is_equals (part s a e) && ms.ordinary)) →
-        r ≡ group_fault (lower (lower x.fault f) ms.fault) g →
-        GroupLineOf s x d t rows flags count (record { fault = r; row = ms.row; next = ms.next; after = ms.after })
-    group_some g r h k =
-        let y = told _ g _ (group (rest (part s x.start x.end)) (left s e)) r (line_is g h) k in
-        let j : Joined d t rows flags count (members_in s x) ms.row = rw members_are v.joined in
+    -- g: whether it is a group's line; b: the lowest fault of its words; r: that of the line
+    pub group_some : (g : Bool) (b r : Option Fault) → g ≡ (is_group_name (part s x.start x.end.at) && (is_equals (part s a e) && ms.ordinary)) →
+        fault_number b ≡ lower (lower (fault_number x.fault) (fault_number f)) (fault_number ms.fault) → r ≡ cond g b (option_or b (Some BadLine)) →
+        GroupLineOf s x t (record { fault = r; row = ms.row; next = ms.next })
+    group_some g b r i j k =
+        let q : fault_number b ≡ words_fault (part s x.start x.end.at ∷ part s a e ∷ left s e) = j ∙ fault_is in
+        let z : entry_of (line_of 0 true (line_words s x)) ≡
+        cond (eqb (fault_number b) 0) (cond g (group (rest (part s x.start x.end.at)) (left s e)) (wrong 6)) (wrong (fault_number b)) =
+        rw (u.text, q, i, v.ordinary) (some_line (part s x.start x.end.at) (part s a e) (left s e) w.yes) in
+        let y = told b g _ (group (rest (part s x.start x.end.at)) (left s e)) r z k in
+        let m : Joined t (members_in s x) ms.row = rw members_are v.joined in
         let p = v.passed in
         record {
           wrong = y.wrong_is;
           right = λ z.
-              let c = (and_both (is_equals (part s a e)) ms.ordinary (and_both (is_group_name (part s x.start x.end)) _ (sym h ∙ (y.right_is z).1)).1).1 in
-              (rw members_are (y.right_is z).0, rw members_are (sym v.ordinary ∙ c), j);
-          joined = j;
-          onto = u.onto ∙ p.onto;
+              let c = (and_both (is_equals (part s a e)) ms.ordinary (and_both (is_group_name (part s x.start x.end.at)) _ (sym i ∙ (y.right_is z).1)).1).1 in
+              (rw members_are (y.right_is z).0, rw members_are (sym v.ordinary ∙ c), m);
+          joined = m;
           on = omega (arith, u.low, u.some, u.high, p.onwards);
-          onwards = omega (arith, u.low, u.some, u.high, p.onwards);
-          high = p.high;
-          few = p.few;
+          passed = record { onwards = omega (arith, u.low, u.some, u.high, p.onwards); high = p.high; few = p.few; onto = u.onto ∙ p.onto };
         }

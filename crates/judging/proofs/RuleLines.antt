@@ -1,5 +1,5 @@
 -- A line that is no heading: one law for each way it is read.
-use Prim.Native.Nat.{ℕ, min, ◌+◌, ◌-◌, ◌≤◌, ◌<◌}
+use Prim.Native.Nat.{ℕ, ◌+◌, ◌-◌, ◌≤◌, ◌<◌}
 use native.Mathlib.Omega.{arith}
 use native.Mathlib.Nat.{zero-add, add_comm}
 use mathlib.Core.Path.{◌≡◌, refl, sym, ap, ◌∙◌}
@@ -7,43 +7,43 @@ use mathlib.Core.List.{List, ◌∷◌, map}
 use mathlib.Core.Bool.{Bool, true, false}
 use lib.ListN.{length, get_or, drop, length-drop}
 use lib.Seq.{drop-drop}
+use Rattle.std.specs.Prelude.{Option, Some, None, Err, IfSome}
 use Rattle.text.specs.declared.Place.TheVariants.{Start, Space}
+use Rattle.text.specs.declared.Span.{Span}
+use Rattle.text.specs.declared.Spot.{Spot}
+use Rattle.text.specs.declared.faults.Fault.{Fault}
+use Rattle.text.specs.declared.kinds.Kind.TheVariants.{Plain}
 use Rattle.text.specs.Bytes.{Text, Words}
 use Rattle.text.specs.Marks.{marks}
 use Rattle.text.specs.Lines.{lines_of}
 use Rattle.text.specs.Words.{words_fault}
-use Rattle.text.specs.Reading.{left, ahead, follow, kind_of, Fenced, Skipped, NoWord, Opens}
+use Rattle.text.specs.Kinds.{kind_of}
+use Rattle.text.specs.Told.{number_of}
+use Rattle.text.specs.Reading.{left, ahead, follow, Fenced, NoWord, Passed, Opens}
+use Rattle.text.specs.Sources.{Skipped, feed_end}
 use Rattle.text.proofs.Joined.{shifted, lines_of_shift}
 use Rattle.text.proofs.Feeds.{FeedAt}
-use Rattle.text.proofs.Readers.{line_at, line_first, blanks_start, between_skip, between_over, opened_skip, opened_same, fence_in}
-use Rattle.text.proofs.ByteKinds.{not_bad, kind_zero}
+use Rattle.text.proofs.Readers.{line_at, line_first, blanks_start, between_skip, between_over, fence_in}
+use Rattle.text.proofs.Sources.{feed_some, opened_plain}
+use Rattle.text.proofs.Told.{number_some}
 use Rattle.rules.specs.declared.Present.{Present}
 use Rattle.rules.specs.declared.Split.{Split}
 use Rattle.rules.specs.Entries.{entry_of}
 use Rattle.rules.specs.Splitting.{words_of, IsSplit}
 use Rattle.rules.specs.Plain.{RuleRead}
-use Rattle.rules.specs.Checking.{line_of, present_fault, line_fault}
+use Rattle.rules.specs.Checking.{line_of, is_absent, present_fault, line_fault}
 use Rattle.rules.proofs.PlainLines.{passes_rule, passes_none}
 use Rattle.rules.proofs.LineKinds.{line_wrong, line_ignored, line_rule}
 use Rattle.rules.proofs.CheckSteps.{refused_first, check_cons, entry_any}
-use Rattle.judging.specs.declared.Judged.{Judged}
-use Rattle.judging.specs.Lines.{RestRead, PlainStart, WordsJudged, RuleLineRead, LineRefused}
+use Rattle.judging.specs.Lines.{RestRead, PlainStart, WordsPass, WordsJudged, RuleLineRead, LineRefused}
 
 -- a line that begins with a plain byte
-pub opens_plain : (s : Text) (f at i : ℕ) → Fenced s f → Skipped s at i → i < f → (get_or s i 0 ≡ 33 → ⊥) → kind_of (get_or s i 0) ≡ 0 → PlainStart s f at i
-opens_plain s f at i g k l x z =
-    record {
-      opens = λ h n y.
-          opened_same s at n i n (opened_skip s at n i y k.blanks) (fence_in s f i g l)
-          (record { blank = k.stop (fence_in s f i g l); bang = x; joins = λ e. absurd ((not_bad (get_or s i 0) (kind_zero (get_or s i 0) 0 0 z).1).slash e) });
-    }
-
-pub opens_nothing : (s : Text) (f at : ℕ) → PlainStart s f at f
-opens_nothing s f at = record { opens = λ h. absurd (omega arith) }
+pub opens_plain : (s : Text) (f at i : ℕ) → Fenced s f → Skipped s at i → i < f → (get_or s i 0 ≡ 33 → ⊥) → kind_of (get_or s i 0) ≡ Plain → PlainStart s at i
+opens_plain s f at i g k l x z = record { opens = λ n y. opened_plain s at n i y k (fence_in s f i g l) x z }
 
 -- the rest of a line at one go
 
-pub rest_none : (s : Text) (from : ℕ) (p : Present) (z : ℕ) → FeedAt s from z → RestRead s from p z
+rest_none : (s : Text) (from : ℕ) (p : Present) (z : ℕ) → FeedAt s from z → RestRead s from p z
 rest_none s from p z e =
     let x : (m : ℕ) → m ≤ from + 1 → NoWord s from m z (m + 1) =
     λ m y. between_over s from m from m z (between_skip s from m from y (blanks_start s from (omega (arith, e.low, e.high)))) e in
@@ -54,57 +54,59 @@ rest_none s from p z e =
       passes = λ n. rw (x 0 (omega arith)).none (passes_none p n);
     }
 
-pub rest_rule : (s : Text) (from : ℕ) (p : Present) (e : ℕ) → (p.form ≡ 0 → ⊥) → RuleRead s from p e → RestRead s from p e
-rest_rule s from p e z r = record { low = r.low; high = r.high; onto = r.onto; passes = λ n. passes_rule p (left s from) n z r.good }
+pub rest_feed : (s : Text) (from : ℕ) (p : Present) (r : Option ℕ) → r ≡ feed_end s from → IfSome r (RestRead s from p)
+rest_feed s from p None e = Prim.tt {0}
+rest_feed s from p (Some z) e = rest_none s from p z (feed_some s from (Some z) z e refl)
 
--- the refusal of a split line
+pub rest_rule : (s : Text) (from : ℕ) (p : Present) (r : Option ℕ) → is_absent p.form ≡ false → IfSome r (RuleRead s from p) → IfSome r (RestRead s from p)
+rest_rule s from p None z r = Prim.tt {0}
+rest_rule s from p (Some e) z r = record { low = r.low; high = r.high; onto = r.onto; passes = λ n. passes_rule p (left s from) n z r.good }
+
+-- the fault of a split line
 
 module _ (ws : Words) (p : Present) (f : ℕ) (e : f ≡ words_fault ws) where
-  pub fault_words : (f ≡ 0 → ⊥) → (ns : List Text) → f ≡ line_fault ns p (entry_of (line_of 0 false ws))
+  pub fault_words : (f ≡ 0 → ⊥) → (ns : List Text) → line_fault ns p (entry_of (line_of 0 false ws)) ≡ f
   unfolding line_fault
   fault_words z ns = rw (line_wrong 0 false ws f e z) refl
 
   module _ (z : f ≡ 0) where
-    pub fault_none : length ws ≡ 0 → (ns : List Text) → 0 ≡ line_fault ns p (entry_of (line_of 0 false ws))
+    pub fault_none : length ws ≡ 0 → (ns : List Text) → line_fault ns p (entry_of (line_of 0 false ws)) ≡ 0
     unfolding line_fault
     fault_none h ns = rw (line_ignored 0 false ws f e z refl h) refl
 
-    pub fault_rule : (length ws ≡ 0 → ⊥) → (k : ℕ) → k ≡ present_fault p ws → (ns : List Text) → k ≡ line_fault ns p (entry_of (line_of 0 false ws))
+    pub fault_rule : (length ws ≡ 0 → ⊥) → (ns : List Text) → line_fault ns p (entry_of (line_of 0 false ws)) ≡ present_fault p ws
     unfolding line_fault
-    fault_rule h k g ns = rw (line_rule 0 false ws f e z refl h) g
+    fault_rule h ns = rw (line_rule 0 false ws f e z refl h) refl
 
 -- a line that is split from `from` on, within the file
 
-module _ (s t : Text) (h : Bool) (from m : ℕ) (x : Text) (r : Split) (xe : x ≡ drop from s) (le : from ≤ length s) (few : m ≤ from + 1) (v : IsSplit h x t r) where
+module _ (s : Text) (t : List Span) (h : Bool) (from m : ℕ) (x : Text) (r : Split) (xe : x ≡ drop from s) (le : from ≤ length s) (few : m ≤ from + 1) (v : IsSplit h x t r) where
   pub split_words : words_of x ≡ left s from
   unfolding words_of left
   split_words = rw xe refl
 
-  pub split_onto : ahead s from m ≡ follow s (from + r.next) (m + r.line)
+  split_onto : ahead s from m ≡ follow s (from + r.next.at) (m + r.next.line)
   unfolding ahead follow
   split_onto =
       let o = rw xe at v.onto in
       ap (λ (k : ℕ). lines_of k true (marks Space (drop from s))) (sym (zero-add m)) ∙
       (lines_of_shift m 0 true (marks Space (drop from s)) ∙
       (ap (map (shifted m)) o ∙
-      (sym (lines_of_shift m r.line false (marks Start (drop r.next (drop from s)))) ∙
-      rw (add_comm r.line m, drop-drop r.next from s) refl)))
+      (sym (lines_of_shift m r.next.line false (marks Start (drop r.next.at (drop from s)))) ∙
+      rw (add_comm r.next.line m, drop-drop r.next.at from s) refl)))
 
   long : length x ≡ length s - from
   long = ap length xe ∙ length-drop from s
 
-  pub split_high : from + r.next ≤ length s
-  split_high = omega (arith, long, v.high)
+  pub split_passed : Passed s from m (from + r.next.at) (m + r.next.line)
+  split_passed = record { onwards = omega (arith, long, v.onwards); high = omega (arith, long, v.high); few = omega (arith, v.few); onto = split_onto }
 
-  pub split_on : min (from + 1) (length s) ≤ from + r.next
-  split_on = omega (arith, long, v.onwards)
+  pub words_pass : (p : Present) → ((ns : List Text) → line_fault ns p (entry_of (line_of 0 false (words_of x))) ≡ 0) →
+      WordsPass s from m p (record { at = from + r.next.at; line = m + r.next.line })
+  words_pass p f = record { fault = rw split_words at f; passed = split_passed }
 
-  pub split_few : m + r.line ≤ from + r.next + 1
-  split_few = omega (arith, v.few)
-
-  pub words_judged : (p : Present) (f : ℕ) → ((ns : List Text) → f ≡ line_fault ns p (entry_of (line_of 0 false (words_of x)))) →
-      WordsJudged s from m p (record { fault = f; next = from + r.next; after = m + r.line })
-  words_judged p f g = record { fault = rw split_words at g; on = split_on; high = split_high; few = split_few; onto = split_onto }
+  pub words_fail : (p : Present) (f : Fault) → ((ns : List Text) → line_fault ns p (entry_of (line_of 0 false (words_of x))) ≡ number_of f) → WordsJudged s from m p (Err f)
+  words_fail p f g = rw split_words at g
 
 -- a line that is opened, with what is ahead of it
 
@@ -127,25 +129,25 @@ module _ (s : Text) (at n : ℕ) (p : Present) (b : Bool) (from m : ℕ) (lt : a
         fault = (r.passes n).fault;
       }
 
-  module _ (z : b ≡ false) (j : Judged) (w : WordsJudged s from m p j) where
-    pub read_words : j.fault ≡ 0 → RuleLineRead s at n p from m j.next j.after
-    read_words h =
+  module _ (z : b ≡ false) where
+    pub read_words : (next : Spot) → WordsPass s from m p next → RuleLineRead s at n p from m next.at next.line
+    read_words next w =
         record {
           low = o.low;
           inside = o.high;
           few = o.few;
-          on = omega (arith, o.low, o.high, w.on);
-          high = w.high;
-          fewer = w.few;
-          read = line_opened z ∙ rw w.onto refl;
-          onto = w.onto;
-          fault = λ ns. rw (entry_any n false (left s from)) (sym (w.fault ns) ∙ h);
+          on = omega (arith, o.low, o.high, w.passed.onwards);
+          high = w.passed.high;
+          fewer = w.passed.few;
+          read = line_opened z ∙ rw w.passed.onto refl;
+          onto = w.passed.onto;
+          fault = λ ns. rw (entry_any n false (left s from)) (w.fault ns);
         }
 
-    pub words_refused : (j.fault ≡ 0 → ⊥) → LineRefused s at n p j.fault
-    words_refused h =
+    pub words_refused : (f : Fault) → ((ns : List Text) → line_fault ns p (entry_of (line_of 0 false (left s from))) ≡ number_of f) → LineRefused s at n p (number_of f)
+    words_refused f g =
         record {
-          some = h;
+          some = number_some f;
           first = λ ns.
-              rw (line_opened z, check_cons, entry_any n false (left s from), ← w.fault ns) (refused_first j.fault n _ h);
+              rw (line_opened z, check_cons, entry_any n false (left s from), g ns) (refused_first (number_of f) n _ (number_some f));
         }

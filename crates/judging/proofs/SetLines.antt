@@ -1,12 +1,19 @@
 -- The heading of a set: one law for each way it is judged.
 use Prim.Native.Nat.{ℕ, ◌+◌, ◌≤◌}
 use native.Mathlib.Omega.{arith}
-use mathlib.Core.Path.{◌≡◌, refl, sym, ◌∙◌}
+use mathlib.Core.Path.{◌≡◌, refl, sym, ap, ◌∙◌}
 use mathlib.Core.List.{List, [], ◌∷◌, map}
-use mathlib.Core.Bool.{true, false, not}
+use mathlib.Core.Bool.{Bool, true, false, not, ◌&&◌}
+use lib.Dec.{eqb}
+use Rattle.std.specs.Cmp.Lexicographic.{pointwise}
 use lib.ListN.{length, get_or, drop, length-append}
 use borrow.Author.Tests.{not-true}
-use Rattle.text.specs.Bytes.{Text, Words, empty, all_of, concat_map}
+use Rattle.std.specs.Prelude.{Option, Some, None, Result}
+use Rattle.std.specs.Option.{ok_or}
+use Rattle.text.specs.declared.Span.{Span}
+use Rattle.text.specs.declared.faults.Fault.{Fault}
+use Rattle.text.specs.declared.faults.Fault.TheVariants.{BadHeading}
+use Rattle.text.specs.Bytes.{Text, Words, same, empty, all_of, concat_map}
 use Rattle.text.specs.Reading.{left}
 use Rattle.text.proofs.Lists.{no, and_both}
 use Rattle.rules.specs.declared.Item.{Item}
@@ -15,35 +22,42 @@ use Rattle.rules.specs.declared.SetHeading.{SetHeading}
 use Rattle.rules.specs.declared.Split.{Split}
 use Rattle.rules.specs.Words.{has_dollar}
 use Rattle.rules.specs.Headings.{Heading, left_item, component_of, known_item, columns_in, indexes_in, first_index, heading_of, good_items}
-use Rattle.rules.specs.Entries.{Entry, wrong, before, after, set_shape, set_entry, entry_of}
+use Rattle.rules.specs.Entries.{Entry, before, after, set_shape, set_entry, entry_of}
 use Rattle.rules.specs.Splitting.{words_of, IsSplit}
 use Rattle.rules.specs.Sets.{IsSet}
 use Rattle.rules.specs.Checking.{line_of}
-use Rattle.rules.proofs.LineKinds.{set_good}
+use Rattle.rules.proofs.LineKinds.{set_good, set_bad}
 use Rattle.rules.proofs.HeldHeadings.{heading_held, sized_held}
-use Rattle.judging.specs.declared.SetJudged.{SetJudged}
-use Rattle.judging.specs.Sets.{refused_set, SetOf, SetLineOf}
+use Rattle.judging.specs.Sets.{SetOf, SetLineOf}
 use Rattle.judging.proofs.Indexed.{index_from_one}
-use Rattle.judging.proofs.RuleLines.{split_words, split_onto, split_on, split_high, split_few}
+use Rattle.judging.proofs.RuleLines.{split_words, split_passed}
 
--- a refused heading, and another way to write the same line
-pub set_refused : (e : Entry) (k : ℕ) (r : SetJudged) → (k ≡ 0 → ⊥) → e ≡ wrong k → r ≡ refused_set k → SetOf e r
-set_refused e k r z h q = rw q (record { wrong = λ y. h; right = λ y. absurd (z y); none = λ y. refl })
+-- the library's test of two slices
+pointwise_same : (a b : Text) → pointwise eqb a b ≡ same a b
+unfolding same
+pointwise_same [] [] = refl
+pointwise_same [] (c ∷ t) = refl
+pointwise_same (b ∷ s) [] = refl
+pointwise_same (b ∷ s) (c ∷ t) = ap (λ (r : Bool). eqb b c && r) (pointwise_same s t)
 
-pub set_as : (e e' : Entry) (r : SetJudged) → e ≡ e' → SetOf e' r → SetOf e r
+pub same_told : (r : Bool) (w y a b : Text) → r ≡ pointwise eqb w y → w ≡ a → y ≡ b → same a b ≡ r
+same_told r w y a b e f g = sym (e ∙ rw (f, g) (pointwise_same a b))
+
+-- another way to write the same line
+pub set_as : (e e' : Entry) (r : Result SetHeading Fault) → e ≡ e' → SetOf e' r → SetOf e r
 set_as e e' r h v = rw h v
 
 -- a heading has a column
 
-known_column : (i : Item) → known_item i ≡ true → length (columns_in i) ≡ 1
+known_column : (i : Option Item) → known_item i ≡ true → length (columns_in i) ≡ 1
 unfolding known_item columns_in
-known_column item.Model h = refl
-known_column (item.Layout k) h = refl
-known_column (item.Variant k) h = refl
-known_column item.Options h = refl
-known_column item.Unknown h = absurd (no h)
+known_column (Some item.Model) h = refl
+known_column (Some (item.Layout k)) h = refl
+known_column (Some (item.Variant k)) h = refl
+known_column (Some item.Options) h = refl
+known_column None h = absurd (no h)
 
-some_column : (is : List Item) → empty is ≡ false → all_of known_item is ≡ true → 1 ≤ length (concat_map columns_in is)
+some_column : (is : List (Option Item)) → empty is ≡ false → all_of known_item is ≡ true → 1 ≤ length (concat_map columns_in is)
 unfolding concat_map all_of empty
 some_column [] e h = absurd (no (sym e))
 some_column (i ∷ is) e h =
@@ -70,15 +84,12 @@ module _ (ws : Words) (shape : set_shape ws ≡ true) where
   unfolding heading_of
   own_index = refl
 
-  pub set_read : (h : SetHeading) → IsSet ws h → h.good ≡ true → SetOf (set_entry ws) (record { fault = 0; set = h })
-  set_read h v g =
-      let k = sym v.good ∙ g in
-      let w = v.holds g in
-      record {
-        wrong = λ z. absurd (z refl);
-        right = λ z. (set_good ws shape k ∙ rw (heading_held own h w) refl, sized_held own h w (own_columns k), rw (w.index, own_index) (index_from_one (before ws)));
-        none = λ z. absurd (z refl);
-      }
+  pub set_judged : (o : Option SetHeading) → IsSet ws o → SetOf (set_entry ws) (ok_or o BadHeading)
+  set_judged None v = set_bad ws shape (sym v.good)
+  set_judged (Some h) v =
+      let k = sym v.good in
+      let w = v.holds h refl in
+      record { is = set_good ws shape k ∙ rw (heading_held own h w) refl; sized = sized_held own h w (own_columns k); index = rw (w.index, own_index) (index_from_one (before ws)) }
 
 -- the first word of a part of the file
 pub tail_dollar : (s : Text) (from : ℕ) (x : Text) → x ≡ drop from s → has_dollar (get_or (left s from) 0 []) ≡ false → has_dollar (get_or (words_of x) 0 []) ≡ false
@@ -86,18 +97,7 @@ unfolding words_of left
 tail_dollar s from x e h = rw e h
 
 -- within the file
-pub set_told : (s t : Text) (from m : ℕ) (x : Text) (r : Split) → x ≡ drop from s → from ≤ length s → m ≤ from + 1 → IsSplit true x t r → (j : SetJudged) →
-    SetOf (entry_of (line_of 0 true (words_of x))) j → SetLineOf s from m (record { fault = j.fault; set = j.set; next = from + r.next; after = m + r.line })
+pub set_told : (s : Text) (t : List Span) (from m : ℕ) (x : Text) (r : Split) → x ≡ drop from s → from ≤ length s → m ≤ from + 1 → IsSplit true x t r → (j : Result SetHeading Fault) →
+    SetOf (entry_of (line_of 0 true (words_of x))) j → SetLineOf s from m (record { set = j; next = record { at = from + r.next.at; line = m + r.next.line } })
 set_told s t from m x r xe le few v j w =
-    let e = split_words s t true from m x r xe le few v in
-    let w' : SetOf (entry_of (line_of 0 true (left s from))) j = rw e at w in
-    record {
-      wrong = w'.wrong;
-      right = w'.right;
-      none = w'.none;
-      onto = split_onto s t true from m x r xe le few v;
-      on = omega arith;
-      onwards = split_on s t true from m x r xe le few v;
-      high = split_high s t true from m x r xe le few v;
-      few = split_few s t true from m x r xe le few v;
-    }
+    record { set = rw (split_words s t true from m x r xe le few v) at w; on = omega arith; passed = split_passed s t true from m x r xe le few v }

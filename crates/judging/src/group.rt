@@ -1,111 +1,72 @@
 // A group line: its words are judged, and their rows are found, as they are read.
-ghost use Rattle.std.specs.Prelude.{◌≡◌, ◌&&◌};
-ghost use Rattle.text.specs.Reading.{Table, Fenced, Within};
-ghost use Rattle.rules.specs.Words.{is_equals, is_group_name, ordinary as ordinary_word};
-ghost use Rattle.listing.specs.Names.{Named};
-ghost use Rattle.names.specs.Compiled.{union};
-ghost use Rattle.judging.specs.Groups.{group_fault, FirstWordAt, DollarWord, MembersOf, GroupLineOf};
+ghost use Rattle.std.specs.Prelude.{◌≡◌, ◌&&◌, cond};
+ghost use Rattle.std.specs.Option.{option_or};
+ghost use Rattle.rules.specs.Words.{is_equals, is_group_name};
+ghost use Rattle.text.specs.declared.faults.Fault.TheVariants.{BadLine};
+ghost use Rattle.text.specs.Sources.{Within};
+ghost use Rattle.judging.specs.Groups.{FirstWordAt, DollarWord, MembersOf, GroupLineOf};
 
 use super::{FirstWord, GroupLine, Members};
-use names::Row;
-use names::search::row_of;
+use names::{Names, Row};
 use rules::words::{is_equals, is_group_name, is_ordinary};
-use text::bytes::lower;
-use text::reader::word_at;
-use text::{LineStart, Next};
+use text::Spot;
+use text::faults::{Fault, lower};
+use text::source::{Next, Source};
 
-// The first word of a heading, whose words begin at `from`, in the physical line `number`.
-pub fn first_word(s: &[u8], t: &[u8; 512], fence: usize, from: usize, number: usize) -> FirstWord
-    requires { Within s.now t.now fence from number }
-    ensures { FirstWordAt s.now from number result }
+// The first word of a heading, whose words begin at `from`, if it begins with `$`.
+pub fn first_word(src: &Source, from: Spot) -> Option<FirstWord>
+    requires { Within src.now.bytes.now from.at from.line }
+    ensures { FirstWordAt src.now.bytes.now from.at from.line result }
 {
-    match word_at(s, t, fence, from, number) {
+    match src.word_at(from) {
         Next::Found {
             start,
             end,
             line,
             fault,
-        } => FirstWord {
-            dollar: s[start] == b'$',
-            start,
-            end,
-            line,
-            fault,
-        },
-        Next::Stop { next: _, line: _ } => FirstWord {
-            dollar: false,
-            start: from,
-            end: from,
-            line: number,
-            fault: 0,
-        },
+        } => {
+            if src.bytes[start] != b'$' {
+                return None;
+            }
+            Some(FirstWord {
+                start,
+                end: Spot { at: end, line },
+                fault,
+            })
+        }
+        Next::Stop { .. } => None,
     }
-}
-
-fn either(a: Row, b: Row) -> Row
-    ensures { result ≡ union a b }
-{
-    Row {
-        layouts: a.layouts | b.layouts,
-        variants: a.variants | b.variants,
-    }
-}
-
-fn and_ordinary(all: bool, w: &[u8]) -> bool
-    ensures { result ≡ (all && ordinary_word w.now) }
-{
-    if all {
-        return is_ordinary(w);
-    }
-    false
 }
 
 // The words of a line from a place on.
-fn read_members(
-    s: &[u8],
-    t: &[u8; 512],
-    fence: usize,
-    from: LineStart,
-    text: &[u8],
-    table: &[usize; 1024],
-    rows: &[u64; 512],
-    flags: &[bool; 1024],
-    count: usize,
-) -> Members
-    requires { Within s.now t.now fence from.at from.line × Named text.now table.now count }
-    ensures { MembersOf s.now from.at from.line text.now table.now rows.now flags.now count result }
+fn read_members(src: &Source, from: Spot, names: &Names) -> Members
+    requires { Within src.now.bytes.now from.at from.line }
+    ensures { MembersOf src.now.bytes.now from.at from.line names.now.table result }
 {
-    let mut f: usize = 0;
-    let mut all = true;
-    let mut row = Row {
-        layouts: 0,
-        variants: 0,
+    let mut members = Members {
+        fault: None,
+        ordinary: true,
+        row: Row::NONE,
+        next: from,
     };
-    let mut i = from.at;
-    let mut l = from.line;
     loop {
-        match word_at(s, t, fence, i, l) {
+        match src.word_at(members.next) {
             Next::Found {
                 start,
                 end,
                 line,
                 fault,
             } => {
-                let w = &s[start..end];
-                f = lower(f, fault);
-                all = and_ordinary(all, w);
-                row = either(row, row_of(w, text, table, rows, flags, count));
-                i = end;
-                l = line;
+                let word = src.word(start, end);
+                let row = names.row(word);
+                members.fault = lower(members.fault, fault);
+                members.ordinary = members.ordinary && is_ordinary(word);
+                members.row = members.row.union(row);
+                members.next = Spot { at: end, line };
             }
             Next::Stop { next, line } => {
-                return Members {
-                    fault: f,
-                    ordinary: all,
-                    row,
-                    next,
-                    after: line,
-                };
+                members.next = Spot { at: next, line };
+                return members;
             }
         }
     }
@@ -114,68 +75,47 @@ fn read_members(
 fn is_group(name: &[u8], equals: &[u8], ordinary: bool) -> bool
     ensures { result ≡ (is_group_name name.now && (is_equals equals.now && ordinary)) }
 {
-    if !is_group_name(name) {
-        return false;
-    }
-    if !is_equals(equals) {
-        return false;
-    }
-    ordinary
+    is_group_name(name) && is_equals(equals) && ordinary
 }
 
-// The refusal of a line that should be a group's, by that of its words.
-fn group_fault(fault: usize, good: bool) -> usize
-    ensures { result ≡ group_fault fault good }
+// The fault of a line that should be a group's, by that of its words.
+fn group_fault(fault: Option<Fault>, good: bool) -> Option<Fault>
+    ensures { result ≡ cond good fault (option_or fault (Some BadLine)) }
 {
-    if fault != 0 {
+    if good {
         return fault;
     }
-    if good { 0 } else { 6 }
+    fault.or(Some(Fault::BadLine))
 }
 
 // The heading whose first word is x, which begins with `$`.
-pub fn group_line(
-    s: &[u8],
-    t: &[u8; 512],
-    fence: usize,
-    x: FirstWord,
-    text: &[u8],
-    table: &[usize; 1024],
-    rows: &[u64; 512],
-    flags: &[bool; 1024],
-    count: usize,
-) -> GroupLine
-    requires { Table t.now × Fenced s.now fence × DollarWord s.now x × Named text.now table.now count }
-    ensures { GroupLineOf s.now x text.now table.now rows.now flags.now count result }
+pub fn group_line(src: &Source, x: FirstWord, names: &Names) -> GroupLine
+    requires { DollarWord src.now.bytes.now x }
+    ensures { GroupLineOf src.now.bytes.now x names.now.table result }
 {
-    let a = x.start;
-    let e = x.end;
-    match word_at(s, t, fence, e, x.line) {
+    match src.word_at(x.end) {
         Next::Found {
             start,
             end,
             line,
             fault,
         } => {
-            let from = LineStart { at: end, line };
-            let m = read_members(s, t, fence, from, text, table, rows, flags, count);
-            let good = is_group(&s[a..e], &s[start..end], m.ordinary);
-            let row = m.row;
+            let name = src.word(x.start, x.end.at);
+            let equals = src.word(start, end);
+            let from = Spot { at: end, line };
+            let members = read_members(src, from, names);
+            let good = is_group(name, equals, members.ordinary);
+            let fault = lower(lower(x.fault, fault), members.fault);
             GroupLine {
-                fault: group_fault(lower(lower(x.fault, fault), m.fault), good),
-                row,
-                next: m.next,
-                after: m.after,
+                fault: group_fault(fault, good),
+                row: members.row,
+                next: members.next,
             }
         }
         Next::Stop { next, line } => GroupLine {
             fault: group_fault(x.fault, false),
-            row: Row {
-                layouts: 0,
-                variants: 0,
-            },
-            next,
-            after: line,
+            row: Row::NONE,
+            next: Spot { at: next, line },
         },
     }
 }

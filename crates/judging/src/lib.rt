@@ -8,75 +8,47 @@ pub mod set;
 
 use names::Row;
 use rules::SetHeading;
+use text::Spot;
+use text::faults::Fault;
 
-// A line that may be a rule. `Read`: it is no heading and nothing of it is refused; its words stand from `from` on, in the physical line `line`, and the next line
-// starts at `next` and has the number `after`. `Heading`: its words stand from `from` on, behind the `!`. Else its refusal.
+// A line of which nothing is refused. `Read`: it is no heading, its words stand from `words` on, and the next line starts at `next`. `Heading`: its words
+// stand from there on, behind the `!`.
 #[derive(Clone, Copy)]
 pub enum RuleLine {
-    Read {
-        from: usize,
-        line: usize,
-        next: usize,
-        after: usize,
-    },
-    Heading {
-        from: usize,
-        line: usize,
-    },
-    Refused(usize),
+    Read { words: Spot, next: Spot },
+    Heading(Spot),
 }
 
-// The refusal of a line, or 0, and where the next line starts.
-#[derive(Clone, Copy)]
-pub struct Judged {
-    pub fault: usize,
-    pub next: usize,
-    pub after: usize,
-}
-
-// The heading of a set, or the line's refusal; `set` is then empty: `no_set` of specs/Sets.antt.
-#[derive(Clone, Copy)]
-pub struct SetJudged {
-    pub fault: usize,
-    pub set: SetHeading,
-}
-
-// The same, with the start of the next line and its number.
+// The heading of a set, or the line's fault, and where the next line starts.
 #[derive(Clone, Copy)]
 pub struct SetLine {
-    pub fault: usize,
-    pub set: SetHeading,
-    pub next: usize,
-    pub after: usize,
+    pub set: Result<SetHeading, Fault>,
+    pub next: Spot,
 }
 
-// The first word of a heading, with its refusal, or 0. `dollar`: it begins with `$`; else the other fields say nothing.
+// The first word of a heading, if it begins with `$`: where it starts, the place behind it, and its fault.
 #[derive(Clone, Copy)]
 pub struct FirstWord {
-    pub dollar: bool,
     pub start: usize,
-    pub end: usize,
-    pub line: usize,
-    pub fault: usize,
+    pub end: Spot,
+    pub fault: Option<Fault>,
 }
 
-// A group's words: the lowest refusal of a word, or 0; whether all are ordinary; the union of their rows; and where the next line starts.
+// A group's words: the lowest fault of a word, whether all are ordinary, the union of their rows, and where the next line starts.
 #[derive(Clone, Copy)]
 pub struct Members {
-    pub fault: usize,
+    pub fault: Option<Fault>,
     pub ordinary: bool,
     pub row: Row,
-    pub next: usize,
-    pub after: usize,
+    pub next: Spot,
 }
 
-// A group line: its refusal, or 0, the row of its words, and where the next line starts.
+// A group line: its fault, the row of its words, and where the next line starts.
 #[derive(Clone, Copy)]
 pub struct GroupLine {
-    pub fault: usize,
+    pub fault: Option<Fault>,
     pub row: Row,
-    pub next: usize,
-    pub after: usize,
+    pub next: Spot,
 }
 
 // Layouts by their numbers: `count` of them, from `first` on.

@@ -1,149 +1,126 @@
 // A line that may be a rule, held to the present heading.
-ghost use Rattle.std.specs.Prelude.{◌≡◌, List, false, ◌≤◌, ◌<◌, length};
+ghost use Rattle.std.specs.Prelude.{◌≡◌, List, false, ◌≤◌, ◌<◌, length, IfSome};
 ghost use Rattle.text.specs.Bytes.{Text};
-ghost use Rattle.text.specs.Reading.{Table, Fenced, Within, Opens};
+ghost use Rattle.text.specs.Reading.{Opens};
+ghost use Rattle.text.specs.Sources.{Within};
+ghost use Rattle.text.specs.Told.{outcome_number};
 ghost use Rattle.rules.specs.Splitting.{words_of, IsSplit};
 ghost use Rattle.rules.specs.Entries.{entry_of};
 ghost use Rattle.rules.specs.Checking.{line_of, line_fault};
 ghost use Rattle.judging.specs.Lines.{RestRead, PlainStart, WordsJudged, RuleLineOf};
 
-use super::{Judged, RuleLine};
+use super::RuleLine;
 use rules::judge::rule_fault;
-use rules::lines::{fence_behind, split_line};
+use rules::lines::split_line;
+use rules::placed::PlacedWords;
 use rules::plain::rule_end;
-use rules::{Present, Split};
-use text::Opening;
-use text::bytes::kind;
-use text::reader::{feed_end, open_line, skip_fast};
+use rules::{Form, Present, Split};
+use text::faults::Fault;
+use text::kinds::Kind;
+use text::source::{Source, feed_end};
+use text::{Opening, Span, Spot};
 
-// The rest of a line at one go, from its first byte that is no blank: where the next line starts, or 0, which says nothing.
-fn rest_end(s: &[u8], t: &[u8; 512], fence: usize, from: usize, p: Present) -> usize
-    requires { Table t.now × Fenced s.now fence }
-    ensures { (result ≡ 0 → ⊥) → RestRead s.now from p result }
+// The rest of a line at one go, from its first byte that is no blank: where the next line starts. None says nothing.
+fn rest_end(src: &Source, from: usize, p: Present) -> Option<usize>
+    ensures { IfSome result (RestRead src.now.bytes.now from p) }
 {
-    if fence <= from {
-        return 0;
+    if src.fence <= from {
+        return None;
     }
-    if kind(t, s[from]) != 0 {
-        return feed_end(s, from);
+    if Kind::of(src.bytes[from]) != Kind::Plain {
+        return feed_end(src.bytes, from);
     }
-    let headless = p.form == 0;
+    let headless = p.form == Form::Absent;
     if headless {
-        return 0;
+        return None;
     }
-    rule_end(s, t, fence, from, p)
+    rule_end(src, from, p)
 }
 
-// The refusal of a split line that is no heading, or 0.
-fn words_fault(w: &[u8], places: &[usize], l: Split, p: Present) -> usize
-    requires { IsSplit false w.now places.now l × (p.left ≤ 4) × (p.right ≤ 5) }
-    ensures { (ns : List Text) → result ≡ line_fault ns p (entry_of (line_of 0 false (words_of w.now))) }
+// A split line that is no heading.
+fn check_words(line: &PlacedWords, l: Split, p: Present) -> Result<(), Fault>
+    requires { IsSplit false line.now.text.now line.now.places.now l × (p.left ≤ 4) × (p.right ≤ 5) }
+    ensures { (ns : List Text) → line_fault ns p (entry_of (line_of 0 false (words_of line.now.text.now))) ≡ outcome_number result }
 {
-    let f = l.fault;
-    if f != 0 {
-        return f;
+    if let Some(fault) = l.fault {
+        return Err(fault);
     }
-    let t = l.tally;
-    if t.count == 0 {
-        return 0;
+    if line.count == 0 {
+        return Ok(());
     }
-    rule_fault(w, places, t.count, p)
+    rule_fault(line, p)
 }
 
-// Any line that is no heading, from where its words begin.
-fn judge_words(
-    s: &[u8],
-    t: &[u8; 512],
-    fence: usize,
-    from: usize,
-    line: usize,
-    p: Present,
-) -> Judged
-    requires { Within s.now t.now fence from line × (p.left ≤ 4) × (p.right ≤ 5) }
-    ensures { WordsJudged s.now from line p result }
+// Any line that is no heading, from where its words begin: where the next line starts.
+fn judge_words(src: &Source, words: Spot, p: Present) -> Result<Spot, Fault>
+    requires { Within src.now.bytes.now words.at words.line × (p.left ≤ 4) × (p.right ≤ 5) }
+    ensures { WordsJudged src.now.bytes.now words.at words.line p result }
 {
-    let w = &s[from..];
-    let mut places: [usize; 20] = [0; 20];
-    let l = split_line(false, w, t, fence_behind(fence, from), &mut places);
-    let fault = words_fault(w, &places, l, p);
-    Judged {
-        fault,
-        next: from + l.next,
-        after: line + l.line,
-    }
+    let rest = src.behind(words.at);
+    let mut places = [Span { start: 0, end: 0 }; 10];
+    let l = split_line(false, &rest, &mut places);
+    let line = PlacedWords {
+        text: rest.bytes,
+        places: &places,
+        count: l.tally.count,
+    };
+    check_words(&line, l, p)?;
+    Ok(Spot {
+        at: words.at + l.next.at,
+        line: words.line + l.next.line,
+    })
 }
 
-// Where the words of a line begin, if the first of its bytes that is no blank is a plain one; else the fence, which says nothing.
-fn plain_start(s: &[u8], t: &[u8; 512], fence: usize, at: usize) -> usize
-    requires { Table t.now × Fenced s.now fence }
-    ensures { PlainStart s.now fence at result }
+// Where the words of a line begin, if the first of its bytes that is no blank is a plain one before the fence. None says nothing.
+fn plain_start(src: &Source, at: usize) -> Option<usize>
+    ensures { IfSome result (PlainStart src.now.bytes.now at) }
 {
-    if fence <= at {
-        return fence;
+    if src.fence <= at {
+        return None;
     }
-    let i = skip_fast(s, t, fence, at);
-    let b = s[i];
-    if b == b'!' {
-        return fence;
+    let i = src.skip_blanks(at);
+    let b = src.bytes[i];
+    if b == b'!' || Kind::of(b) != Kind::Plain {
+        return None;
     }
-    if kind(t, b) != 0 {
-        return fence;
-    }
-    i
+    Some(i)
 }
 
 // A line opened, at one go where it begins with a plain byte before the fence.
-fn open_plain(s: &[u8], t: &[u8; 512], fence: usize, at: usize, line: usize) -> Opening
-    requires { Within s.now t.now fence at line }
-    ensures { Opens s.now at line result.heading result.at result.line }
+fn open_plain(src: &Source, at: Spot) -> Opening
+    requires { Within src.now.bytes.now at.at at.line }
+    ensures { Opens src.now.bytes.now at.at at.line result.heading result.at result.line }
 {
-    let i = plain_start(s, t, fence, at);
-    if i < fence {
-        return Opening {
+    match plain_start(src, at.at) {
+        Some(i) => Opening {
             heading: false,
             at: i,
-            line,
-        };
+            line: at.line,
+        },
+        None => src.open_line(at),
     }
-    open_line(s, t, at, line)
 }
 
-// The line that starts at `at` and has the number `line`, under the heading p.
-pub fn rule_line(
-    s: &[u8],
-    t: &[u8; 512],
-    fence: usize,
-    at: usize,
-    line: usize,
-    p: Present,
-) -> RuleLine
-    requires { Within s.now t.now fence at line × (at < length s.now) × (p.left ≤ 4) × (p.right ≤ 5) }
-    ensures { RuleLineOf s.now at line p result }
+// The line that starts at `at`, under the heading p.
+pub fn rule_line(src: &Source, at: Spot, p: Present) -> Result<RuleLine, Fault>
+    requires { Within src.now.bytes.now at.at at.line × (at.at < length src.now.bytes.now) × (p.left ≤ 4) × (p.right ≤ 5) }
+    ensures { RuleLineOf src.now.bytes.now at.at at.line p result }
 {
-    let o = open_plain(s, t, fence, at, line);
-    let from = o.at;
-    let number = o.line;
+    let o = open_plain(src, at);
+    let words = Spot {
+        at: o.at,
+        line: o.line,
+    };
     if o.heading {
-        return RuleLine::Heading { from, line: number };
+        return Ok(RuleLine::Heading(words));
     }
-    let e = rest_end(s, t, fence, from, p);
-    if e != 0 {
-        return RuleLine::Read {
-            from,
-            line: number,
-            next: e,
-            after: number + 1,
+    if let Some(end) = rest_end(src, words.at, p) {
+        let next = Spot {
+            at: end,
+            line: words.line + 1,
         };
+        return Ok(RuleLine::Read { words, next });
     }
-    let j = judge_words(s, t, fence, from, number, p);
-    let bad = j.fault != 0;
-    if bad {
-        return RuleLine::Refused(j.fault);
-    }
-    RuleLine::Read {
-        from,
-        line: number,
-        next: j.next,
-        after: j.after,
-    }
+    let next = judge_words(src, words, p)?;
+    Ok(RuleLine::Read { words, next })
 }

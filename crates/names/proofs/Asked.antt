@@ -1,22 +1,16 @@
 -- `*` and a profile's values, listed: what is asked of a word is what the definition of matching says.
-use Prim.Native.Nat.{ℕ, zero, suc, ◌+◌, ◌*◌, ◌-◌, ◌≤◌, ◌<◌}
-use native.Mathlib.Omega.{arith}
-use native.Mathlib.Numerals.{add-one}
-use mathlib.Core.Path.{◌≡◌, refl, sym, ap, ◌∙◌}
-use mathlib.Core.List.{List, [], ◌∷◌, ◌++◌}
-use mathlib.Core.Bool.{Bool, true, false, not, ◌||◌, ◌&&◌, cond}
-use lib.Dec.{eqb, ltb}
-use lib.ListN.{length, get_or, take, drop, drop_of_length-le}
-use borrow.Author.Tests.{ne_eqb, eqb-true, eqb-false, eq-eqb, ltb-true, ltb-false, le-ltb}
+use Rattle.std.proofs.Common.{◌≡◌, ℕ, zero, suc, ◌+◌, ◌-◌, ◌≤◌, ◌<◌, Bool, true, false, not, ◌||◌, ◌&&◌, cond, eqb, ltb, List, [], ◌∷◌, ◌++◌, length, get_or, drop, Some, None, refl, sym, ap, ◌∙◌, add-one, length-append, arith}
+use borrow.Author.Tests.{ne_eqb, eqb-true, eqb-false, eq-eqb, ltb-true, ltb-false}
+use Rattle.std.specs.Option.{is_some}
+use Rattle.std.proofs.Math.Seq.{drop-cons, drop-length}
+use Rattle.text.specs.declared.Span.{Span}
 use Rattle.text.specs.Bytes.{Text, same, empty, first, part, any_of}
 use Rattle.text.proofs.Lists.{same_eq, same_self, empty_some, any_nil, any_cons}
 use Rattle.text.proofs.Positions.{part_empty, length_part}
 use Rattle.profile.specs.Profile.{Texts, profile_of, layout_count, fields, drop_empty, options_of}
-use Rattle.profile.specs.Splitting.{FieldEnd}
 use Rattle.profile.specs.Refusals.{profile_refusals}
-use Rattle.profile.specs.Places.{most_values, value_at, Placed, ValuesOf}
-use Rattle.profile.proofs.Counts.{few_layouts}
-use Rattle.profile.proofs.OptionFields.{options_field, options_none}
+use Rattle.profile.specs.Spans.{most_values, no_span, value_at, Placed, ValuesOf}
+use Rattle.profile.proofs.Counts.{few_layouts, few_options}
 use Rattle.rules.specs.declared.Column.{Column}
 use Rattle.rules.specs.declared.Column.TheVariants as column
 use Rattle.rules.specs.Words.{has_dollar, is_star}
@@ -24,22 +18,25 @@ use Rattle.rules.specs.Faults.{defined}
 use Rattle.answers.specs.Matching.{members, word_matches, value_matches, column_matches, is_options}
 use Rattle.bitsets.specs.Sets.{is_in}
 use Rattle.bitsets.proofs.Bits.{in_none, in_half}
-use Rattle.listing.specs.Names.{names_at, number_of, most_names}
-use Rattle.listing.proofs.Ranking.{number_named}
-use Rattle.listing.proofs.Adding.{named_none}
+use Rattle.listing.specs.Names.{most_names, number_in}
+use Rattle.listing.specs.Lists.{text_of, names_of, bytes_at}
+use Rattle.listing.proofs.Finding.{number_named}
+use Rattle.listing.proofs.Adding.{part_behind}
 use Rattle.names.specs.declared.Row.{Row}
+use Rattle.names.specs.declared.table.Table.{Table}
+use Rattle.names.specs.declared.Names.{Names}
 use Rattle.names.specs.Rows.{Question, asks, says}
-use Rattle.names.specs.Compiled.{no_row, numbered, Tables, Filled, Renewed, NewRow}
+use Rattle.names.specs.Compiled.{Filled, Renewed, NewRow}
 use Rattle.names.specs.Marked.{or_also, listable, value_asks, name_count, Marked}
-use Rattle.names.specs.Placing.{text_size, four_texts, TextsCopied, Lies, ValuesPlaced, SomeSet}
-use Rattle.names.specs.Asked.{value_number, ValueRow, values_ask, options_ask, star_at, profile_asks, Begun, CompiledProfile}
+use Rattle.names.specs.Placing.{four_texts, TextsCopied, Lies, field_start, ValuesPlaced, SomeSet}
+use Rattle.names.specs.Asked.{value_number, ValueRow, values_ask, options_ask, star_at, profile_asks, Begun, TableCompiled}
 use Rattle.names.specs.Ready.{Ready}
 use Rattle.names.proofs.Searching.{numbered_none}
 use Rattle.names.proofs.Joining.{says_none}
-use Rattle.names.proofs.Renewing.{filled_new, with_star}
-use Rattle.names.proofs.Defining.{whole}
+use Rattle.names.proofs.Renewing.{number_new, filled_new}
 use Rattle.names.proofs.Marking.{filled_same, marked_nothing, marked_same, marked_then}
-use Rattle.names.proofs.Placing.{lies_part, lies_options, lies_star, length_four, short_texts, values_of}
+use Rattle.names.proofs.Fields.{Turn, field_in, start_first, start_next}
+use Rattle.names.proofs.Placing.{lies_part, values_of}
 use Rattle.names.proofs.Tests.{or_none, or_assoc, and_none, and_all}
 
 any_same : (f g : Text → Bool) → ((x : Text) → f x ≡ g x) → (l : List Text) → any_of f l ≡ any_of g l
@@ -112,30 +109,31 @@ few_names v = go (empty v)
     go true = omega arith
     go false = omega arith
 
+-- nothing is asked
+never : Question
+never k c w = false
+
 -- the loop of `mark_values`
 
-module _ (s : Text) (b t rows : List ℕ) (flags : List Bool) (count : ℕ) where
-  pub values_start : Tables s t rows flags count → Marked s t t rows rows flags flags count count 0 (values_ask s b 0)
+module _ (t : Table) (b : List Span) where
+  pub values_start : Marked t t 0 (values_ask (text_of t.list) b 0)
   unfolding values_ask
-  values_start v = marked_nothing s t rows flags count (values_ask s b 0) 0 (λ k c w. refl) v
+  values_start = marked_nothing t (values_ask (text_of t.list) b 0) 0 (λ k c w. refl)
 
-  pub values_more : (j : ℕ) (t' rows' : List ℕ) (flags' : List Bool) (n : ℕ) → Marked s t t' rows rows' flags flags' count n j (values_ask s b j) →
-      (t'' rows'' : List ℕ) (flags'' : List Bool) (r : ℕ) (row : Row) → ValueRow j row →
-      Marked s t' t'' rows' rows'' flags' flags'' n r (name_count (value_at s b j)) (value_asks (value_at s b j) (says row)) →
-      Marked s t t'' rows rows'' flags flags'' count r (j + 1) (values_ask s b (j + 1))
-  unfolding values_ask or_also
-  values_more j t' rows' flags' n v t'' rows'' flags'' r row y u =
-      marked_same s t rows flags count t'' rows'' flags'' r (j + name_count (value_at s b j)) (or_also (values_ask s b j) (value_asks (value_at s b j) (says row)))
-      (marked_then s t rows flags count t' rows' flags' n j (values_ask s b j) v t'' rows'' flags'' r (name_count (value_at s b j)) (value_asks (value_at s b j) (says row)) u)
-      (values_ask s b (j + 1)) (j + 1) (omega (arith, few_names (value_at s b j)))
+  pub values_more : (j : ℕ) (t' t'' : Table) (row : Row) → Marked t t' j (values_ask (text_of t.list) b j) → ValueRow j row →
+      Marked t' t'' (name_count (bytes_at t'.list (get_or b j no_span))) (value_asks (bytes_at t'.list (get_or b j no_span)) (says row)) →
+      Marked t t'' (j + 1) (values_ask (text_of t.list) b (j + 1))
+  unfolding values_ask or_also value_at
+  values_more j t' t'' row v y u =
+      let z : bytes_at t'.list (get_or b j no_span) ≡ value_at (text_of t.list) b j = ap (λ (s : Text). part s (get_or b j no_span).start (get_or b j no_span).end) v.text in
+      let w = rw z at u in
+      marked_same t t'' (j + name_count (value_at (text_of t.list) b j)) (or_also (values_ask (text_of t.list) b j) (value_asks (value_at (text_of t.list) b j) (says row)))
+      (marked_then t t' j (values_ask (text_of t.list) b j) v t'' (name_count (value_at (text_of t.list) b j)) (value_asks (value_at (text_of t.list) b j) (says row)) w)
+      (values_ask (text_of t.list) b (j + 1)) (j + 1) (omega (arith, few_names (value_at (text_of t.list) b j)))
       (λ k c w a l h.
       rw (add-one j)
-      (ap (λ (x : Bool). values_ask s b j k c w || x)
-      (asks_same (value_at s b j) (says row) (λ i d. eqb j (value_number i d)) k c w (y.at k c a l))))
-
-  pub values_end : (j : ℕ) (t' rows' : List ℕ) (flags' : List Bool) (n : ℕ) → Marked s t t' rows rows' flags flags' count n j (values_ask s b j) → j ≤ 65 → 65 ≤ j →
-      Marked s t t' rows rows' flags flags' count n 65 (values_ask s b 65)
-  values_end j t' rows' flags' n v h k = let z : j ≡ 65 = omega arith in rw z at v
+      (ap (λ (x : Bool). values_ask (text_of t.list) b j k c w || x)
+      (asks_same (value_at (text_of t.list) b j) (says row) (λ i d. eqb j (value_number i d)) k c w (y.at k c a l))))
 
 -- the loop of `mark_options`
 
@@ -143,136 +141,95 @@ option_empty : (k : ℕ) (c : Column) (w : Text) → value_asks [] (λ i d. is_o
 unfolding value_asks listable empty
 option_empty k c w = refl
 
-any_step : (f : Text → Bool) → f [] ≡ false → (o : Text) (a e : ℕ) → FieldEnd o a e →
-    any_of f (options_of (drop a o)) ≡ f (part o a e) || any_of f (options_of (drop (e + 1) o))
-any_step f z o a e v = go (ltb a e) refl
-  where
-    go : (b : Bool) → ltb a e ≡ b → any_of f (options_of (drop a o)) ≡ f (part o a e) || any_of f (options_of (drop (e + 1) o))
-    go true y = ap (any_of f) (options_field o a e v (ltb-true a e y)) ∙ any_cons f (part o a e) (options_of (drop (e + 1) o))
-    go false y =
-        let h = ltb-false a e y in
-        let i : e ≡ a = omega (arith, v.low) in
-        let p : part o a e ≡ [] = ap (part o a) i ∙ part_empty o a in
-        ap (any_of f) (options_none o a e v h) ∙ sym (rw (p, z) refl)
+-- one field more of the options
 
-count_empty : name_count [] ≡ 0
-unfolding name_count empty
-count_empty = refl
+any_step : (f : Text → Bool) → f [] ≡ false → (x : Text) (xs : List Text) → any_of f (drop_empty (x ∷ xs)) ≡ f x || any_of f (drop_empty xs)
+unfolding drop_empty empty
+any_step f z [] xs = sym (rw z refl)
+any_step f z (b ∷ x) xs = any_cons f (b ∷ x) (drop_empty xs)
 
-count_some : (v : Text) → 0 < length v → name_count v ≡ 1
-unfolding name_count empty
-count_some [] h = absurd (omega arith)
-count_some (b ∷ v) h = refl
+count_step : (x : Text) (xs : List Text) → length (drop_empty (x ∷ xs)) ≡ name_count x + length (drop_empty xs)
+unfolding drop_empty name_count empty
+count_step [] xs = omega arith
+count_step (b ∷ x) xs = omega arith
 
-count_step : (o : Text) (a e : ℕ) → FieldEnd o a e → length (options_of (drop a o)) ≡ name_count (part o a e) + length (options_of (drop (e + 1) o))
-count_step o a e v = go (ltb a e) refl
-  where
-    go : (b : Bool) → ltb a e ≡ b → length (options_of (drop a o)) ≡ name_count (part o a e) + length (options_of (drop (e + 1) o))
-    go true y =
-        let h = ltb-true a e y in
-        let l : 0 < length (part o a e) = omega (arith, length_part o a e v.high) in
-        let z : length (options_of (drop a o)) ≡ suc (length (options_of (drop (e + 1) o))) = ap length (options_field o a e v h) in
-        omega (arith, count_some (part o a e) l)
-    go false y =
-        let h = ltb-false a e y in
-        let i : e ≡ a = omega (arith, v.low) in
-        let p : name_count (part o a e) ≡ 0 = ap name_count (ap (part o a) i ∙ part_empty o a) ∙ count_empty in
-        let z : length (options_of (drop a o)) ≡ length (options_of (drop (e + 1) o)) = ap length (options_none o a e v h) in
-        omega arith
+none_left : drop_empty [] ≡ []
+unfolding drop_empty
+none_left = refl
 
-options_nil : options_of [] ≡ []
-unfolding options_of fields drop_empty empty
-options_nil = refl
+fields_from : (o : Text) (n : ℕ) (f : Text) → Turn o n f → drop n (fields o) ≡ f ∷ drop (n + 1) (fields o)
+fields_from o n f t = let l = t.few in rw (drop-cons (fields o) n [], add-one n, ← t.field) refl
 
-options_end : (o : Text) (i : ℕ) → length o ≤ i → options_of (drop i o) ≡ []
-options_end o i h = rw (drop_of_length-le o h) options_nil
-
-pub record OptionsSo (o s : Text) (t t' rows rows' : List ℕ) (flags flags' : List Bool) (count n start : ℕ) : Type 0 where
+pub record OptionsSo (o : Text) (base : ℕ) (t t' : Table) (n start : ℕ) : Type 0 where
   pub most : ℕ
   pub sofar : Question
-  pub marked : Marked s t t' rows rows' flags flags' count n most sofar
-  pub few : most + length (options_of (drop start o)) ≡ length (options_of o)
-  pub on : (k : ℕ) (c : Column) (w : Text) → sofar k c w || options_ask (options_of (drop start o)) k c w ≡ options_ask (options_of o) k c w
+  pub marked : Marked t t' most sofar
+  pub next : start ≡ base + field_start (fields o) n
+  pub few : most + length (drop_empty (drop n (fields o))) ≡ length (options_of o)
+  pub on : (k : ℕ) (c : Column) (w : Text) → sofar k c w || options_ask (drop_empty (drop n (fields o))) k c w ≡ options_ask (options_of o) k c w
 
-never : Question
-never k c w = false
-
-module _ (o s : Text) (t rows : List ℕ) (flags : List Bool) (count : ℕ) where
-  pub options_start : Tables s t rows flags count → OptionsSo o s t t rows rows flags flags count count 0
-  unfolding never
-  options_start v =
+module _ (o : Text) (base : ℕ) (t : Table) where
+  pub options_start : OptionsSo o base t t 0 base
+  unfolding never options_of
+  options_start =
       record {
         most = 0;
         sofar = never;
-        marked = marked_nothing s t rows flags count never 0 (λ k c w. refl) v;
+        marked = marked_nothing t never 0 (λ k c w. refl);
+        next = omega (arith, start_first (fields o));
         few = omega arith;
         on = λ k c w. refl;
       }
 
-  module _ (t' rows' : List ℕ) (flags' : List Bool) (n start : ℕ) (v : OptionsSo o s t t' rows rows' flags flags' count n start) where
-    pub options_more : (base e : ℕ) → Lies s base o → FieldEnd o start e → (t'' rows'' : List ℕ) (flags'' : List Bool) (r : ℕ) →
-        Marked s t' t'' rows' rows'' flags' flags'' n r (name_count (part s (base + start) (base + e)))
-        (value_asks (part s (base + start) (base + e)) (says (record { layouts = 0; variants = 1 }))) →
-        OptionsSo o s t t'' rows rows'' flags flags'' count r (e + 1)
-    unfolding options_ask or_also
-    options_more base e l f t'' rows'' flags'' r u =
-        record {
-          most = v.most + name_count (part o start e);
-          sofar = or_also v.sofar (value_asks (part o start e) (λ i d. is_options d));
-          marked = marked_then s t rows flags count t' rows' flags' n v.most v.sofar v.marked t'' rows'' flags'' r (name_count (part o start e))
-              (value_asks (part o start e) (λ i d. is_options d)) y;
-          few = omega (arith, v.few, count_step o start e f);
-          on = λ k c w.
-              or_assoc (v.sofar k c w) (value_asks (part o start e) (λ i d. is_options d) k c w) (any_of (λ x. value_asks x (λ i d. is_options d) k c w) (options_of (drop (e + 1) o)))
-              ∙ (ap (λ (x : Bool). v.sofar k c w || x) (sym (any_step (λ x. value_asks x (λ i d. is_options d) k c w) (option_empty k c w) o start e f)) ∙ v.on k c w);
-        }
-      where
-        z : part s (base + start) (base + e) ≡ part o start e
-        z = lies_part s base o start e l f.low f.high
+  module _ (t' : Table) (n start : ℕ) (v : OptionsSo o base t t' n start) (lies : Lies (text_of t.list) base o) where
+    module _ (f : Text) (u : Turn o n f) where
+      option_text : part (text_of t.list) start (start + length f) ≡ f
+      option_text =
+          let g = field_in o n u.few in
+          let e : start + length f ≡ base + (field_start (fields o) n + length (get_or (fields o) n [])) = omega (arith, v.next, ap length u.field) in
+          rw (e, v.next) (lies_part (text_of t.list) base o _ _ lies (omega arith) g.high ∙ (g.text ∙ sym u.field))
 
-        x : Marked s t' t'' rows' rows'' flags' flags'' n r (name_count (part o start e)) (value_asks (part o start e) (says (record { layouts = 0; variants = 1 })))
-        x = rw z at u
+      pub option_high : start + length f ≤ length (text_of t.list)
+      option_high = omega (arith, v.next, (field_in o n u.few).high, lies.high, ap length u.field)
 
-        y : Marked s t' t'' rows' rows'' flags' flags'' n r (name_count (part o start e)) (value_asks (part o start e) (λ i d. is_options d))
-        y =
-            marked_same s t' rows' flags' n t'' rows'' flags'' r (name_count (part o start e)) (value_asks (part o start e) (says (record { layouts = 0; variants = 1 }))) x
-            (value_asks (part o start e) (λ i d. is_options d)) (name_count (part o start e)) (omega arith)
-            (λ k c w a b h. asks_same (part o start e) (says (record { layouts = 0; variants = 1 })) (λ i d. is_options d) k c w (option_row k c a))
-
-    pub options_done : length o ≤ start → Marked s t t' rows rows' flags flags' count n (length (options_of o)) (options_ask (options_of o))
-    unfolding options_ask
-    options_done h =
-        let z = options_end o start h in
-        marked_same s t rows flags count t' rows' flags' n v.most v.sofar v.marked (options_ask (options_of o)) (length (options_of o))
-        (omega (arith, v.few))
-        (λ k c w a b g.
-        sym (or_none (v.sofar k c w))
-        ∙ (ap (λ (x : Bool). v.sofar k c w || x) (sym (ap (any_of (λ x. value_asks x (λ i d. is_options d) k c w)) z ∙ any_nil (λ x. value_asks x (λ i d. is_options d) k c w)))
-        ∙ v.on k c w))
-
--- the start: no name is listed, and then `*` is
-
-none_numbered : (s : Text) (t : List ℕ) (w : Text) → number_of s t 0 w ≡ most_names
-unfolding number_of
-none_numbered s t w = refl
-
-none_row : (k : ℕ) (c : Column) → says no_row k c ≡ false
-unfolding no_row
-none_row k c = says_none k c
-
-filled_none : (s : Text) (t rows : List ℕ) (flags : List Bool) → Tables s t rows flags 0 → Filled never 32 s t rows flags 0
-unfolding never
-filled_none s t rows flags v =
-    record {
-      tables = v;
-      told = λ w h.
+      pub options_more : (t'' : Table) →
+          Marked t' t'' (name_count (bytes_at t'.list (record { start = start; end = start + length f })))
+          (value_asks (bytes_at t'.list (record { start = start; end = start + length f })) (says (record { layouts = 0; variants = 1 }))) →
+          (m : ℕ) → m ≡ n + 1 → OptionsSo o base t t'' m (start + length f + 1)
+      unfolding options_ask or_also
+      options_more t'' w m i =
           record {
-            at = λ k c a b.
-                ap (λ (i : ℕ). says (numbered rows i) k c) (none_numbered s t w)
-                ∙ (ap (λ (r : Row). says r k c) (numbered_none rows most_names (omega arith)) ∙ none_row k c);
-          };
-      sieve = λ w h. none_numbered s t w;
-    }
+            most = v.most + name_count f;
+            sofar = or_also v.sofar (value_asks f (λ i d. is_options d));
+            marked = marked_then t t' v.most v.sofar v.marked t'' (name_count f) (value_asks f (λ i d. is_options d)) y;
+            next = rw i (omega (arith, v.next, start_next (fields o) n u.few, ap length u.field));
+            few = rw i (omega (arith, v.few, ap (λ (xs : List Text). length (drop_empty xs)) (fields_from o n f u), count_step f (drop (n + 1) (fields o))));
+            on = λ k c x.
+                rw i
+                (or_assoc (v.sofar k c x) (value_asks f (λ i d. is_options d) k c x) (any_of (λ z. value_asks z (λ i d. is_options d) k c x) (drop_empty (drop (n + 1) (fields o))))
+                ∙ (ap (λ (b : Bool). v.sofar k c x || b)
+                (sym (any_step (λ z. value_asks z (λ i d. is_options d) k c x) (option_empty k c x) f (drop (n + 1) (fields o)))
+                ∙ ap (λ (xs : List Text). any_of (λ z. value_asks z (λ i d. is_options d) k c x) (drop_empty xs)) (sym (fields_from o n f u)))
+                ∙ v.on k c x));
+          }
+        where
+          z : bytes_at t'.list (record { start = start; end = start + length f }) ≡ f
+          z = ap (λ (s : Text). part s start (start + length f)) v.marked.text ∙ option_text
+
+          y : Marked t' t'' (name_count f) (value_asks f (λ i d. is_options d))
+          y =
+              marked_same t' t'' (name_count f) (value_asks f (says (record { layouts = 0; variants = 1 }))) (rw z at w) (value_asks f (λ i d. is_options d)) (name_count f)
+              (omega arith) (λ k c x a b h. asks_same f (says (record { layouts = 0; variants = 1 })) (λ i d. is_options d) k c x (option_row k c a))
+
+    pub options_done : n ≡ length (fields o) → Marked t t' (length (options_of o)) (options_ask (options_of o))
+    unfolding options_ask
+    options_done e =
+        let z : drop_empty (drop n (fields o)) ≡ [] = ap drop_empty (rw e (drop-length (fields o))) ∙ none_left in
+        marked_same t t' v.most v.sofar v.marked (options_ask (options_of o)) (length (options_of o)) (omega (arith, v.few))
+        (λ k c x a b h.
+        sym (or_none (v.sofar k c x))
+        ∙ (ap (λ (i : Bool). v.sofar k c x || i) (sym (ap (any_of (λ y. value_asks y (λ i d. is_options d) k c x)) z ∙ any_nil (λ y. value_asks y (λ i d. is_options d) k c x)))
+        ∙ v.on k c x))
 
 star_other : (row : Row) (k : ℕ) (c : Column) (w : Text) → same w (42 ∷ []) ≡ false → value_asks (42 ∷ []) (says row) k c w ≡ false
 unfolding value_asks
@@ -290,92 +247,33 @@ star_plain : (g : Text) → same (36 ∷ g) (42 ∷ []) ≡ false
 unfolding same
 star_plain g = refl
 
-no_names : (s : Text) (t : List ℕ) → names_at s t 0 ≡ []
-unfolding names_at
-no_names s t = refl
-
-pub star_fresh : (s w : Text) (t : List ℕ) → any_of (same w) (names_at s t 0) ≡ false
-star_fresh s w t = ap (any_of (same w)) (no_names s t) ∙ any_nil (same w)
-
-pub tables_none : (s : Text) (t rows : List ℕ) (flags : List Bool) → length t ≡ 1024 → length rows ≡ 512 → length flags ≡ 1024 → Tables s t rows flags 0
-tables_none s t rows flags a b c = record { named = named_none s t a; size = b; flagged = c }
-
-pub begun_star : (s v : Text) (t t' rows rows' : List ℕ) (flags flags' : List Bool) (row : Row) → Tables s t rows flags 0 → v ≡ 42 ∷ [] →
-    NewRow s s v t t' rows rows' flags flags' 0 row → Begun (value_asks (42 ∷ []) (says row)) s t' rows' flags' 1
-begun_star s v t t' rows rows' flags flags' row u z y =
-    record {
-      held = filled_new never (value_asks (42 ∷ []) (says row)) 32 s s (42 ∷ []) t t' rows rows' flags flags' 0 row renewed (filled_none s t rows flags u) (omega arith) x;
-      star = x.number (42 ∷ []) ∙ rw (same_self (42 ∷ [])) refl;
-      plain = λ g. x.number (36 ∷ g) ∙ rw (star_plain g) (none_numbered s t (36 ∷ g));
-    }
-  where
-    x : NewRow s s (42 ∷ []) t t' rows rows' flags flags' 0 row
-    x = rw z at y
-
-    renewed : Renewed never (value_asks (42 ∷ []) (says row)) 32 (42 ∷ []) row
-    renewed = record { others = λ w o k c. star_never row w o k c; this = record { at = λ k c a b. star_this (says row) k c } }
-
--- the row of `*`
-
 empty_none : not (empty {A = ℕ} []) ≡ false
 unfolding empty
 empty_none = refl
 
-some_value : (s : Text) (b : List ℕ) (j : ℕ) → j < most_values → Placed s b → ltb (get_or b (2 * j) 0) (get_or b (2 * j + 1) 0) ≡ not (empty (value_at s b j))
+some_value : (s : Text) (b : List Span) (j : ℕ) → j < most_values → Placed s b → ltb (get_or b j no_span).start (get_or b j no_span).end ≡ not (empty (value_at s b j))
 unfolding value_at
-some_value s b j l p = go (ltb (get_or b (2 * j) 0) (get_or b (2 * j + 1) 0)) refl
+some_value s b j l p = go (ltb (get_or b j no_span).start (get_or b j no_span).end) refl
   where
-    go : (c : Bool) → ltb (get_or b (2 * j) 0) (get_or b (2 * j + 1) 0) ≡ c → c ≡ not (empty (part s (get_or b (2 * j) 0) (get_or b (2 * j + 1) 0)))
+    go : (c : Bool) → ltb (get_or b j no_span).start (get_or b j no_span).end ≡ c → c ≡ not (empty (part s (get_or b j no_span).start (get_or b j no_span).end))
     go true z =
-        let h = ltb-true (get_or b (2 * j) 0) (get_or b (2 * j + 1) 0) z in
-        let e = empty_some (part s (get_or b (2 * j) 0) (get_or b (2 * j + 1) 0))
-        (λ (y : length (part s (get_or b (2 * j) 0) (get_or b (2 * j + 1) 0)) ≡ 0).
-        omega (arith, length_part s (get_or b (2 * j) 0) (get_or b (2 * j + 1) 0) (p.place j l).high)) in
+        let h = ltb-true (get_or b j no_span).start (get_or b j no_span).end z in
+        let e = empty_some (part s (get_or b j no_span).start (get_or b j no_span).end)
+        (λ (y : length (part s (get_or b j no_span).start (get_or b j no_span).end) ≡ 0).
+        omega (arith, length_part s (get_or b j no_span).start (get_or b j no_span).end (p.place j l).high)) in
         sym (rw e refl)
     go false z =
-        let h = ltb-false (get_or b (2 * j) 0) (get_or b (2 * j + 1) 0) z in
-        let e : get_or b (2 * j + 1) 0 ≡ get_or b (2 * j) 0 = omega (arith, (p.place j l).low) in
-        sym (ap (λ (y : Text). not (empty y)) (ap (part s (get_or b (2 * j) 0)) e ∙ part_empty s (get_or b (2 * j) 0)) ∙ empty_none)
+        let h = ltb-false (get_or b j no_span).start (get_or b j no_span).end z in
+        let e : (get_or b j no_span).end ≡ (get_or b j no_span).start = omega (arith, (p.place j l).low) in
+        sym (ap (λ (y : Text). not (empty y)) (ap (part s ((get_or b j no_span).start)) e ∙ part_empty s ((get_or b j no_span).start)) ∙ empty_none)
 
-star_row : (s : Text) (b : List ℕ) (l v : ℕ) → Placed s b → SomeSet b 0 l → SomeSet b 32 v →
+star_row : (s : Text) (b : List Span) (l v : ℕ) → Placed s b → SomeSet b 0 l → SomeSet b 32 v →
     (k : ℕ) (c : Column) → 1 ≤ k → k ≤ 32 → says (record { layouts = l; variants = v }) k c ≡ star_at s b k c
 unfolding says star_at
 star_row s b l v p x y k column.Model a h = x.first
 star_row s b l v p x y k column.Layout a h = x.at k a h ∙ some_value s b (0 + k) (omega arith) p
 star_row s b l v p x y k column.Variant a h = y.at k a h ∙ some_value s b (32 + k) (omega arith) p
 star_row s b l v p x y k column.Options a h = y.first
-
--- all of a profile
-
-pub begun_tables : (q : Question) (s : Text) (t rows : List ℕ) (flags : List Bool) (count : ℕ) → Begun q s t rows flags count → Tables s t rows flags count
-begun_tables q s t rows flags count v = v.held.tables
-
-begun_marked : (q f : Question) (s : Text) (t t' rows rows' : List ℕ) (flags flags' : List Bool) (count count' most : ℕ) → Begun q s t rows flags count →
-    Marked s t t' rows rows' flags flags' count count' most f → Begun (or_also q f) s t' rows' flags' count'
-begun_marked q f s t t' rows rows' flags flags' count count' most v u =
-    record {
-      held = u.held q v.held;
-      star = (let z = v.star in u.numbers (42 ∷ []) (omega arith) ∙ z);
-      plain = λ g. u.plain g (v.plain g);
-    }
-
-begun_same : (q f : Question) (s : Text) (t rows : List ℕ) (flags : List Bool) (count : ℕ) →
-    ((k : ℕ) (c : Column) (w : Text) → 1 ≤ k → k ≤ 32 → empty w ≡ false → q k c w ≡ f k c w) → Begun q s t rows flags count → Begun f s t rows flags count
-begun_same q f s t rows flags count e v = record { held = filled_same q f 32 s t rows flags count e v.held; star = v.star; plain = v.plain }
-
-pub begun_profile : (s o : Text) (b t t' t'' rows rows' rows'' : List ℕ) (flags flags' flags'' : List Bool) (n r l v : ℕ) → Placed s b → SomeSet b 0 l → SomeSet b 32 v →
-    Begun (value_asks (42 ∷ []) (says (record { layouts = l; variants = v }))) s t rows flags 1 →
-    Marked s t t' rows rows' flags flags' 1 n most_values (values_ask s b most_values) →
-    Marked s t' t'' rows' rows'' flags' flags'' n r (length (options_of o)) (options_ask (options_of o)) →
-    Begun (profile_asks s b (options_of o)) s t'' rows'' flags'' r
-unfolding profile_asks
-begun_profile s o b t t' t'' rows rows' rows'' flags flags' flags'' n r l v p x y u m z =
-    begun_marked (or_also (value_asks (42 ∷ []) (star_at s b)) (values_ask s b most_values)) (options_ask (options_of o)) s t' t'' rows' rows'' flags' flags'' n r (length (options_of o))
-    (begun_marked (value_asks (42 ∷ []) (star_at s b)) (values_ask s b most_values) s t t' rows rows' flags flags' 1 n most_values
-    (begun_same (value_asks (42 ∷ []) (says (record { layouts = l; variants = v }))) (value_asks (42 ∷ []) (star_at s b)) s t rows flags 1
-    (λ k c w a h e. asks_same (42 ∷ []) (says (record { layouts = l; variants = v })) (star_at s b) k c w (star_row s b l v p x y k c a h)) u)
-    m)
-    z
 
 -- What a profile's values ask is what matching asks, of words that are not empty.
 
@@ -406,7 +304,7 @@ value_law w v h = go (same w (42 ∷ [])) (empty v) refl
     go true false e = rw e refl
     go false b e = word_law w v h
 
-star_word : (s : Text) (b : List ℕ) (k : ℕ) (c : Column) (w : Text) → value_asks (42 ∷ []) (star_at s b) k c w ≡ same w (42 ∷ []) && star_at s b k c
+star_word : (s : Text) (b : List Span) (k : ℕ) (c : Column) (w : Text) → value_asks (42 ∷ []) (star_at s b) k c w ≡ same w (42 ∷ []) && star_at s b k c
 unfolding value_asks listable empty has_dollar first
 star_word s b k c w = refl
 
@@ -418,7 +316,7 @@ asks_no : (v w : Text) (f : ℕ → Column → Bool) (k : ℕ) (c : Column) → 
 unfolding value_asks
 asks_no v w f k c e = rw e (ap (λ (x : Bool). listable v && x) (and_none (same w v)) ∙ and_none (listable v))
 
-module _ (s : Text) (b : List ℕ) (k : ℕ) (c : Column) (w : Text) where
+module _ (s : Text) (b : List Span) (k : ℕ) (c : Column) (w : Text) where
   values_none : (n : ℕ) → n ≤ value_number k c → values_ask s b n k c w ≡ false
   unfolding values_ask
   values_none zero l = refl
@@ -465,7 +363,7 @@ or_options : (a b : Bool) → a || b ≡ ((a && true) || false) || b
 or_options true b = refl
 or_options false b = refl
 
-pub profile_law : (x : Texts) (s : Text) (b : List ℕ) → ValuesOf x s b → (k : ℕ) (c : Column) (w : Text) → 1 ≤ k → k ≤ 32 → empty w ≡ false →
+pub profile_law : (x : Texts) (s : Text) (b : List Span) → ValuesOf x s b → (k : ℕ) (c : Column) (w : Text) → 1 ≤ k → k ≤ 32 → empty w ≡ false →
     profile_asks s b (options_of x.options) k c w ≡ asks [] (profile_of x) k c w
 unfolding profile_asks or_also asks column_matches profile_of value_number star_at is_star is_options
 profile_law x s b v k column.Model w a l h =
@@ -485,60 +383,114 @@ profile_law x s b v k column.Options w a l h =
     ∙ (or_options (same w (42 ∷ [])) (options_ask (options_of x.options) k column.Options w)
     ∙ rw (star_word s b k column.Options w, values_none s b k column.Options w 65 (omega arith)) refl))
 
--- fewer layouts
-filled_fewer : (q : Question) (n m : ℕ) (s : Text) (t rows : List ℕ) (flags : List Bool) (count : ℕ) → m ≤ n → Filled q n s t rows flags count → Filled q m s t rows flags count
-filled_fewer q n m s t rows flags count l v = record { tables = v.tables; told = λ w h. record { at = λ k c a b. (v.told w h).at k c a (omega arith) }; sieve = v.sieve }
-
 defined_none : (g : Text) → defined [] g ≡ false
 unfolding defined any_of
 defined_none g = refl
 
-pub ready_profile : (x : Texts) (s : Text) (b t rows : List ℕ) (flags : List Bool) (count : ℕ) → profile_refusals x ≡ [] → ValuesOf x s b →
-    Begun (profile_asks s b (options_of x.options)) s t rows flags count → count ≤ 130 → Ready x [] s t rows flags count
-ready_profile x s b t rows flags count h v u l =
+-- fewer layouts
+filled_fewer : (q : Question) (n m : ℕ) (t : Table) → m ≤ n → Filled q n t → Filled q m t
+filled_fewer q n m t l v = record { told = λ w h. record { at = λ k c a b. (v.told w h).at k c a (omega arith) }; sieve = v.sieve }
+
+-- the start: no name is listed, and then `*` is
+
+none_numbered : (w : Text) → number_in [] w ≡ None
+unfolding number_in
+none_numbered w = refl
+
+filled_none : (t : Table) → names_of t.list ≡ [] → Filled never 32 t
+unfolding never
+filled_none t e =
+    let none : (w : Text) → number_in (names_of t.list) w ≡ None = λ w. ap (λ (ns : List Text). number_in ns w) e ∙ none_numbered w in
     record {
-      held =
-          with_star (asks [] (profile_of x)) (layout_count (profile_of x)) s t rows flags count
-          (filled_fewer (asks [] (profile_of x)) 32 (layout_count (profile_of x)) s t rows flags count (omega (arith, few_layouts x h))
-          (filled_same (profile_asks s b (options_of x.options)) (asks [] (profile_of x)) 32 s t rows flags count (profile_law x s b v) u.held))
-          u.star;
-      listed = λ g.
-          sym (number_named s t (36 ∷ g) count u.held.tables.named.few)
-          ∙ (le-ltb (number_of s t count (36 ∷ g)) most_names (let z = u.plain g in omega arith) ∙ sym (defined_none g));
-      few = omega arith;
+      told = λ w h. record { at = λ k c a b. ap (λ (r : Row). says r k c) (numbered_none t.rows _ (none w)) ∙ says_none k c };
+      sieve = λ w h. none w;
     }
 
--- the texts copied, the places, and the names
+pub star_fresh : (t : Table) (w : Text) → names_of t.list ≡ [] → any_of (same w) (names_of t.list) ≡ false
+star_fresh t w e = ap (any_of (same w)) e ∙ any_nil (same w)
 
-module _ (x : Texts) (h : profile_refusals x ≡ []) (d d' : Text) (used : ℕ) (v : TextsCopied x d d' used) where
-  copied : take (used - 0) d' ≡ four_texts x ++ (42 ∷ [])
-  copied = whole used d' ∙ v.text
+module _ (t t' : Table) (s : Text) (row : Row) (e : names_of t.list ≡ []) (z : t.list.count ≡ 0)
+    (u : NewRow t t' s (42 ∷ []) row) where
+  few : t.list.count < most_names
+  few = omega arith
 
-  pub room_left : used + 16384 ≤ text_size
-  room_left =
-      let l = short_texts x h in
-      omega (arith, v.grown, length_four x, l.model, l.layouts, l.variants, l.options)
+  number_star : (w : Text) → number_in (names_of t'.list) w ≡ cond (same w (42 ∷ [])) (Some t.list.count) None
+  number_star w = number_new t t' s (42 ∷ []) row u few w ∙ ap (cond (same w (42 ∷ [])) (Some t.list.count)) (ap (λ (ns : List Text). number_in ns w) e ∙ none_numbered w)
 
-  pub options_lie : Lies (take (used - 0) d') (length x.model + length x.layouts + length x.variants) x.options
-  options_lie = rw copied (lies_options x)
+  pub begun_star : Begun (value_asks (42 ∷ []) (says row)) t'
+  begun_star =
+      record {
+        held = filled_new t t' s (42 ∷ []) row u few never (value_asks (42 ∷ []) (says row)) 32 renewed (filled_none t e);
+        star = number_star (42 ∷ []) ∙ rw (same_self (42 ∷ []), z) refl;
+        plain = λ g. number_star (36 ∷ g) ∙ rw (star_plain g) refl;
+      }
+    where
+      renewed : Renewed never (value_asks (42 ∷ []) (says row)) 32 (42 ∷ []) row
+      renewed = record { others = λ w o k c. star_never row w o k c; this = record { at = λ k c a b. star_this (says row) k c } }
 
-  pub star_lies : Lies (take (used - 0) d') (length x.model + length x.layouts + length x.variants + length x.options) (42 ∷ [])
-  star_lies = rw copied (lies_star x)
+-- all of a profile
 
-  module _ (b : List ℕ) (p : ValuesPlaced x.model x.layouts x.variants b) where
-    placed_values : ValuesOf x (take used d') b
-    placed_values = rw v.text (values_of x h b p)
+begun_marked : (q f : Question) (t t' : Table) (most : ℕ) → Begun q t → Marked t t' most f → Begun (or_also q f) t'
+begun_marked q f t t' most v u = record { held = u.held q v.held; star = u.numbers (42 ∷ []) 0 v.star; plain = λ g. u.plain g (v.plain g) }
 
-    pub all_placed : Placed (take (used - 0) d') b
-    all_placed = rw copied (values_of x h b p).placed
+begun_same : (q f : Question) (t : Table) → ((k : ℕ) (c : Column) (w : Text) → 1 ≤ k → k ≤ 32 → empty w ≡ false → q k c w ≡ f k c w) → Begun q t → Begun f t
+begun_same q f t e v = record { held = filled_same q f 32 t e v.held; star = v.star; plain = v.plain }
 
-    pub compiled_profile : length d ≡ text_size → (t rows : List ℕ) (flags : List Bool) (count : ℕ) →
-        Begun (profile_asks (take (used - 0) d') b (options_of x.options)) (take (used - 0) d') t rows flags count → count ≤ 130 →
-        CompiledProfile x d' t rows flags b (record { used = used; count = count })
-    compiled_profile z t rows flags count u l =
-        record {
-          ready = ready_profile x (take used d') b t rows flags count h placed_values (rw (whole used d') at u) l;
-          values = placed_values;
-          room = room_left;
-          size = v.size ∙ z;
-        }
+pub table_compiled : (x : Texts) (b : List Span) (t₀ t t' t'' : Table) (p : Span) (l v : ℕ) → profile_refusals x ≡ [] → ValuesPlaced x b → TextsCopied x t₀ p → SomeSet b 0 l → SomeSet b 32 v →
+    NewRow t₀ t (text_of t₀.list) (bytes_at t₀.list p) (record { layouts = l; variants = v }) → Marked t t' most_values (values_ask (text_of t.list) b most_values) →
+    Marked t' t'' (length (options_of x.options)) (options_ask (options_of x.options)) → TableCompiled x b t''
+unfolding profile_asks
+table_compiled x b t₀ t t' t'' p l v h placed copied sl sv u m o =
+    record {
+      begun = rw text'' begun_all;
+      text = text'';
+      used = o.used ∙ (m.used ∙ (u.used ∙ (ap length copied.text ∙ length-append (four_texts x) (42 ∷ []))));
+      few = omega (arith, o.few, m.few, u.count, copied.count, few_options x h);
+    }
+  where
+    text : text_of t.list ≡ four_texts x ++ (42 ∷ [])
+    text = u.text ∙ copied.text
+
+    text'' : text_of t''.list ≡ four_texts x ++ (42 ∷ [])
+    text'' = o.text ∙ (m.text ∙ text)
+
+    star : bytes_at t₀.list p ≡ 42 ∷ []
+    star =
+        ap (λ (q : Span). part (text_of t₀.list) q.start q.end) copied.star
+        ∙ (ap (λ (y : Text). part y (length (four_texts x)) (length (four_texts x) + 1)) copied.text
+        ∙ (ap (part (four_texts x ++ (42 ∷ [])) (length (four_texts x))) (sym (length-append (four_texts x) (42 ∷ []))) ∙ part_behind (four_texts x) (42 ∷ [])))
+
+    begun : Begun (value_asks (42 ∷ []) (says (record { layouts = l; variants = v }))) t
+    begun = begun_star t₀ t (text_of t₀.list) (record { layouts = l; variants = v }) copied.names copied.count (rw star at u)
+
+    begun_all : Begun (or_also (or_also (value_asks (42 ∷ []) (star_at (four_texts x ++ (42 ∷ [])) b)) (values_ask (four_texts x ++ (42 ∷ [])) b most_values)) (options_ask (options_of x.options))) t''
+    begun_all =
+        begun_marked (or_also (value_asks (42 ∷ []) (star_at (four_texts x ++ (42 ∷ [])) b)) (values_ask (four_texts x ++ (42 ∷ [])) b most_values)) (options_ask (options_of x.options)) t' t'' (length (options_of x.options))
+        (begun_marked (value_asks (42 ∷ []) (star_at (four_texts x ++ (42 ∷ [])) b)) (values_ask (four_texts x ++ (42 ∷ [])) b most_values) t t' most_values
+        (begun_same (value_asks (42 ∷ []) (says (record { layouts = l; variants = v }))) (value_asks (42 ∷ []) (star_at (four_texts x ++ (42 ∷ [])) b)) t
+        (λ k c w a i e. asks_same (42 ∷ []) (says (record { layouts = l; variants = v })) (star_at (four_texts x ++ (42 ∷ [])) b) k c w (star_row (four_texts x ++ (42 ∷ [])) b l v (values_of x h b placed).placed sl sv k c a i)) begun)
+        (rw text at m))
+        o
+
+-- the names of the profile
+
+pub ready_profile : (x : Texts) (names : Names) → profile_refusals x ≡ [] → ValuesPlaced x names.bounds → TableCompiled x names.bounds names.table → names.groups ≡ 0 →
+    names.layouts ≡ layout_count (profile_of x) → Ready x [] names
+ready_profile x names h placed u z n =
+    record {
+      held =
+          record {
+            filled =
+                filled_fewer (asks [] (profile_of x)) 32 (layout_count (profile_of x)) names.table (omega (arith, few_layouts x h))
+                (filled_same (profile_asks (text_of names.table.list) names.bounds (options_of x.options)) (asks [] (profile_of x)) 32 names.table
+                (profile_law x (text_of names.table.list) names.bounds values) u.begun.held);
+            star = u.begun.star;
+          };
+      listed = λ g. sym (number_named (names_of names.table.list) (36 ∷ g)) ∙ (ap is_some (u.begun.plain g) ∙ sym (defined_none g));
+      number = z;
+      values = values;
+      layouts = n;
+    }
+  where
+    values : ValuesOf x (text_of names.table.list) names.bounds
+    values = rw u.text (values_of x h names.bounds placed)

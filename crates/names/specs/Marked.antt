@@ -1,11 +1,13 @@
 -- A profile's values, put into the table one by one.
-use Rattle.std.specs.Prelude.{ℕ, ◌+◌, ◌≤◌, ◌<◌, ◌≡◌, List, ◌∷◌, Bool, not, ◌||◌, ◌&&◌, cond}
+use Rattle.std.specs.Prelude.{ℕ, ◌+◌, ◌≤◌, ◌≡◌, ◌∷◌, Bool, not, ◌||◌, ◌&&◌, cond, Some, None}
 use Rattle.text.specs.Bytes.{Text, same, empty}
 use Rattle.rules.specs.declared.Column.{Column}
 use Rattle.rules.specs.Words.{has_dollar}
-use Rattle.listing.specs.Names.{number_of, most_names}
+use Rattle.listing.specs.Names.{number_in}
+use Rattle.listing.specs.Lists.{text_of, names_of}
+use Rattle.names.specs.declared.table.Table.{Table}
 use Rattle.names.specs.Rows.{Question}
-use Rattle.names.specs.Compiled.{Tables, Filled}
+use Rattle.names.specs.Compiled.{Filled}
 
 -- a word matches by one question or by another
 unfoldable pub or_also : Question → Question → Question
@@ -24,10 +26,11 @@ unfoldable pub name_count : Text → ℕ
 name_count v = cond (empty v) 0 1
 
 -- Values are put into their rows, or listed with them, at most `most` new names: what is held for a question is then held for that question or theirs. No name
--- that is listed changes its number, and none that begins with `$` is new.
-pub record Marked (s : Text) (t t' rows rows' : List ℕ) (flags flags' : List Bool) (count count' most : ℕ) (f : Question) : Type 0 where
-  pub tables : Tables s t' rows' flags' count'
-  pub few : count' ≤ count + most
-  pub held : (q : Question) → Filled q 32 s t rows flags count → Filled (or_also q f) 32 s t' rows' flags' count'
-  pub numbers : (w : Text) → number_of s t count w < most_names → number_of s t' count' w ≡ number_of s t count w
-  pub plain : (g : Text) → number_of s t count (36 ∷ g) ≡ most_names → number_of s t' count' (36 ∷ g) ≡ most_names
+-- that is listed changes its number, none that begins with `$` is new, and the text stays.
+pub record Marked (t t' : Table) (most : ℕ) (f : Question) : Type 0 where
+  pub text : text_of t'.list ≡ text_of t.list
+  pub used : t'.list.used ≡ t.list.used
+  pub few : t'.list.count ≤ t.list.count + most
+  pub held : (q : Question) → Filled q 32 t → Filled (or_also q f) 32 t'
+  pub numbers : (w : Text) (g : ℕ) → number_in (names_of t.list) w ≡ Some g → number_in (names_of t'.list) w ≡ Some g
+  pub plain : (g : Text) → number_in (names_of t.list) (36 ∷ g) ≡ None → number_in (names_of t'.list) (36 ∷ g) ≡ None

@@ -1,13 +1,13 @@
 -- The places of a profile's values in the names' text, which begins with the profile's four texts, one after the other, and `*`.
-use Rattle.std.specs.Prelude.{ℕ, ◌+◌, ◌*◌, ◌≤◌, ◌<◌, ◌≡◌, List, [], ◌∷◌, ◌++◌, true, ltb, length, get_or, take, drop}
+use Rattle.std.specs.Prelude.{ℕ, zero, suc, ◌+◌, ◌≤◌, ◌<◌, ◌≡◌, List, [], ◌∷◌, ◌++◌, true, ltb, length, get_or, drop}
+use Rattle.text.specs.declared.Span.{Span}
 use Rattle.text.specs.Limits.{longest_text}
-use Rattle.text.specs.Bytes.{Text, part}
+use Rattle.text.specs.Bytes.{Text}
 use Rattle.profile.specs.Profile.{Texts, fields}
+use Rattle.profile.specs.Spans.{most_values, no_span}
 use Rattle.bitsets.specs.Sets.{is_in}
-
--- the room for the names: four texts, `*`, and the names of 64 groups
-abbrev pub text_size : ℕ
-text_size = 20608
+use Rattle.listing.specs.Lists.{text_of, names_of}
+use Rattle.names.specs.declared.table.Table.{Table}
 
 unfoldable pub four_texts : Texts → Text
 four_texts x = ((x.model ++ x.layouts) ++ x.variants) ++ x.options
@@ -19,11 +19,13 @@ pub record ShortTexts (x : Texts) : Type 0 where
   pub variants : length x.variants ≤ longest_text
   pub options : length x.options ≤ longest_text
 
--- the four texts and `*` are in the text d, which is as long as it was
-pub record TextsCopied (x : Texts) (d d' : Text) (used : ℕ) : Type 0 where
-  pub grown : used ≡ length (four_texts x) + 1
-  pub size : length d' ≡ length d
-  pub text : take used d' ≡ four_texts x ++ (42 ∷ [])
+-- the four texts and `*`, which stands at p, are the text, and no name is listed
+pub record TextsCopied (x : Texts) (t : Table) (p : Span) : Type 0 where
+  pub text : text_of t.list ≡ four_texts x ++ (42 ∷ [])
+  pub used : t.list.used ≡ length (four_texts x) + 1
+  pub star : p ≡ record { start = length (four_texts x); end = length (four_texts x) + 1 }
+  pub names : names_of t.list ≡ []
+  pub count : t.list.count ≡ 0
 
 -- a text stands in another from a place on
 pub record Lies (s : Text) (base : ℕ) (o : Text) : Type 0 where
@@ -31,31 +33,34 @@ pub record Lies (s : Text) (base : ℕ) (o : Text) : Type 0 where
   pub high : base + length o ≤ length s
   pub text : drop base s ≡ o ++ after
 
--- from a to e stands the field of the number j, from 0, of a text that stands from `base` on; beyond the last field the part is empty
-pub record FieldPlace (o : Text) (base j a e : ℕ) : Type 0 where
-  pub start : ℕ
-  pub stop : ℕ
-  pub starts : a ≡ base + start
-  pub stops : e ≡ base + stop
-  pub low : start ≤ stop
-  pub high : stop ≤ length o
-  pub text : part o start stop ≡ get_or (fields o) j []
+-- where the field of the number j begins, each with a comma behind it
+unfoldable pub field_start : List Text → ℕ → ℕ
+field_start fs zero = 0
+field_start [] (suc j) = 0
+field_start (f ∷ fs) (suc j) = length f + 1 + field_start fs j
 
--- 32 fields have their places from the value number `at` on; the places before are as they were
-pub record FieldsPlaced (o : Text) (base at : ℕ) (b b' : List ℕ) : Type 0 where
+-- from the place on stands the field of the number j, of a text that stands from `base` on
+pub record FieldPlace (fs : List Text) (base j : ℕ) (p : Span) : Type 0 where
+  pub starts : p.start ≡ base + field_start fs j
+  pub stops : p.end ≡ p.start + length (get_or fs j [])
+
+-- the fields have their places, from the value number `first` on; the other places are as they were
+pub record FieldsPlaced (o : Text) (base first : ℕ) (b b' : List Span) : Type 0 where
   pub size : length b' ≡ length b
-  pub here : (j : ℕ) → j < 32 → FieldPlace o base j (get_or b' (2 * (at + j)) 0) (get_or b' (2 * (at + j) + 1) 0)
-  pub before : (i : ℕ) → i < 2 * at → get_or b' i 0 ≡ get_or b i 0
+  pub here : (j : ℕ) → j < length (fields o) → FieldPlace (fields o) base j (get_or b' (first + j) no_span)
+  pub before : (i : ℕ) → i < first → get_or b' i no_span ≡ get_or b i no_span
+  pub beyond : (i : ℕ) → first + length (fields o) ≤ i → get_or b' i no_span ≡ get_or b i no_span
 
 -- the model, 32 layouts and 32 variants have theirs
-pub record ValuesPlaced (m l v : Text) (b : List ℕ) : Type 0 where
-  pub size : length b ≡ 130
-  pub start : get_or b 0 0 ≡ 0
-  pub stop : get_or b 1 0 ≡ length m
-  pub layout : FieldsPlaced l (length m) 1 b b
-  pub variant : FieldsPlaced v (length m + length l) 33 b b
+pub record ValuesPlaced (x : Texts) (b : List Span) : Type 0 where
+  pub size : length b ≡ most_values
+  pub model : get_or b 0 no_span ≡ record { start = 0; end = length x.model }
+  pub layout : (j : ℕ) → j < length (fields x.layouts) → FieldPlace (fields x.layouts) (length x.model) j (get_or b (1 + j) no_span)
+  pub variant : (j : ℕ) → j < length (fields x.variants) → FieldPlace (fields x.variants) (length x.model + length x.layouts) j (get_or b (33 + j) no_span)
+  pub no_layout : (j : ℕ) → length (fields x.layouts) ≤ j → j < 32 → get_or b (1 + j) no_span ≡ no_span
+  pub no_variant : (j : ℕ) → length (fields x.variants) ≤ j → get_or b (33 + j) no_span ≡ no_span
 
 -- 0 is in the set, and of the numbers 1 to 32 those whose value is not empty
-pub record SomeSet (b : List ℕ) (before r : ℕ) : Type 0 where
+pub record SomeSet (b : List Span) (before r : ℕ) : Type 0 where
   pub first : is_in 0 r ≡ true
-  pub at : (k : ℕ) → 1 ≤ k → k ≤ 32 → is_in k r ≡ ltb (get_or b (2 * (before + k)) 0) (get_or b (2 * (before + k) + 1) 0)
+  pub at : (k : ℕ) → 1 ≤ k → k ≤ 32 → is_in k r ≡ ltb (get_or b (before + k) no_span).start (get_or b (before + k) no_span).end

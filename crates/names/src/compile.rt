@@ -1,40 +1,23 @@
 // A profile compiled: `*` and the profile's values listed with their rows.
 ghost use Rattle.std.specs.Prelude.{◌≡◌, [], ◌∷◌, ◌+◌, ◌≤◌, ◌<◌, length};
 ghost use Rattle.text.specs.Limits.{most_options};
-ghost use Rattle.text.specs.Bytes.{part};
-ghost use Rattle.profile.specs.Profile.{texts_of, options_of};
+ghost use Rattle.profile.specs.Profile.{options_of};
 ghost use Rattle.profile.specs.Refusals.{profile_refusals};
-ghost use Rattle.profile.specs.Places.{most_values, Placed};
+ghost use Rattle.profile.specs.Spans.{most_values, Placed};
 ghost use Rattle.listing.specs.Names.{most_names};
+ghost use Rattle.listing.specs.Lists.{text_of, names_of, bytes_at};
 ghost use Rattle.names.specs.Rows.{says};
-ghost use Rattle.names.specs.Compiled.{Tables};
 ghost use Rattle.names.specs.Marked.{value_asks, Marked};
-ghost use Rattle.names.specs.Placing.{text_size, Lies};
-ghost use Rattle.names.specs.Asked.{ValueRow, values_ask, options_ask, profile_asks, Begun, CompiledProfile};
+ghost use Rattle.names.specs.Placing.{ValuesPlaced, Lies, TextsCopied};
+ghost use Rattle.names.specs.Asked.{ValueRow, values_ask, options_ask, Begun, TableCompiled};
 
-use super::groups::list_row;
-use super::marks::mark_value;
-use super::places::{copy_texts, place_values, some_set};
-use super::{Held, Row};
+use super::places::{place_values, some_set};
+use super::sieve::FLAGS;
+use super::table::Table;
+use super::{Names, Row};
 use bitsets::with;
-use profile::fields::field_end;
-
-// Empties the filter, and lists `*`, which stands at `at`, with its row.
-fn begin(
-    text: &[u8],
-    table: &mut [usize; 1024],
-    rows: &mut [u64; 512],
-    flags: &mut [bool; 1024],
-    at: usize,
-    row: Row,
-)
-    requires { (at + 1 ≤ length text.now) × (part text.now at (at + 1) ≡ 42 ∷ []) × (length rows.old ≡ 512)
-        × (length table.old ≡ 1024) }
-    ensures { Begun (value_asks (42 ∷ []) (says row)) text.now table.new rows.new flags.new 1 }
-{
-    *flags = [false; 1024];
-    list_row(text, table, rows, flags, 0, at, at + 1, row);
-}
+use profile::texts::Texts;
+use text::Span;
 
 // The row of the value of a number: 0 is the model, then come 32 layouts and 32 variants.
 fn value_row(j: usize) -> Row
@@ -42,122 +25,90 @@ fn value_row(j: usize) -> Row
     ensures { ValueRow j result }
 {
     if j < 33 {
-        let s = with(0, j);
-        return Row {
-            layouts: s,
+        Row {
+            layouts: with(0, j),
             variants: 0,
-        };
-    }
-    let s = with(0, j - 32);
-    Row {
-        layouts: 0,
-        variants: s,
-    }
-}
-
-// Marks the model, the layouts and the variants.
-fn mark_values(
-    text: &[u8],
-    bounds: &[usize; 130],
-    table: &mut [usize; 1024],
-    rows: &mut [u64; 512],
-    flags: &mut [bool; 1024],
-    count: usize,
-) -> usize
-    requires { Placed text.now bounds.now × Tables text.now table.old rows.old flags.old count × (count + most_values ≤ most_names) }
-    ensures { Marked text.now table.old table.new rows.old rows.new flags.old flags.new
-        count result most_values (values_ask text.now bounds.now most_values) }
-{
-    let mut n = count;
-    let mut j: usize = 0;
-    while j < 65 {
-        let start = bounds[2 * j];
-        let end = bounds[2 * j + 1];
-        n = mark_value(text, table, rows, flags, n, start, end, value_row(j));
-        j += 1;
-    }
-    n
-}
-
-// Marks the options, whose text stands from `base` on.
-fn mark_options(
-    options: &[u8],
-    text: &[u8],
-    base: usize,
-    table: &mut [usize; 1024],
-    rows: &mut [u64; 512],
-    flags: &mut [bool; 1024],
-    count: usize,
-) -> usize
-    requires { Lies text.now base options.now × Tables text.now table.old rows.old flags.old count
-        × (count + length (options_of options.now) < most_names) }
-    ensures { Marked text.now table.old table.new rows.old rows.new flags.old flags.new
-        count result (length (options_of options.now)) (options_ask (options_of options.now)) }
-{
-    let mut n = count;
-    let mut start: usize = 0;
-    while start < options.len() {
-        let e = field_end(options, start);
-        let row = Row {
+        }
+    } else {
+        Row {
             layouts: 0,
-            variants: 1,
-        };
-        n = mark_value(text, table, rows, flags, n, base + start, base + e, row);
-        start = e + 1;
+            variants: with(0, j - 32),
+        }
     }
-    n
 }
 
-// Lists `*` and all values, with the options' text from `base` on and `*` behind it: how many names these are.
-fn mark_profile(
-    text: &[u8],
-    options: &[u8],
-    base: usize,
-    bounds: &[usize; 130],
-    table: &mut [usize; 1024],
-    rows: &mut [u64; 512],
-    flags: &mut [bool; 1024],
-) -> usize
-    requires { Placed text.now bounds.now
-        × Lies text.now base options.now
-        × Lies text.now (base + length options.now) (42 ∷ [])
-        × (length (options_of options.now) ≤ most_options)
-        × (length rows.old ≡ 512)
-        × (length table.old ≡ 1024) }
-    ensures { Begun (profile_asks text.now bounds.now (options_of options.now)) text.now table.new
-        rows.new flags.new result × (result ≤ 130) }
-{
-    let layouts = some_set(bounds, 0);
-    let variants = some_set(bounds, 32);
-    let row = Row { layouts, variants };
-    begin(text, table, rows, flags, base + options.len(), row);
-    let n = mark_values(text, bounds, table, rows, flags, 1);
-    mark_options(options, text, base, table, rows, flags, n)
+const OPTION: Row = Row {
+    layouts: 0,
+    variants: 1,
+};
+
+impl Table {
+    // Forgets all names, and copies the four texts, one after the other, and `*`: the place of `*`.
+    fn copy_texts(&mut self, texts: &Texts) -> Span
+        requires { profile_refusals texts.now ≡ [] }
+        ensures { TextsCopied texts.now self.new result }
+    {
+        self.list.clear();
+        self.flags = [false; FLAGS];
+        self.list.append(texts.model);
+        self.list.append(texts.layouts);
+        self.list.append(texts.variants);
+        self.list.append(texts.options);
+        self.list.append(b"*")
+    }
+
+    // Marks the model, the layouts and the variants.
+    fn mark_values(&mut self, bounds: &[Span; 65])
+        requires { Placed (text_of self.old.list) bounds.now × (self.old.list.count + most_values ≤ most_names) }
+        ensures { Marked self.old self.new most_values (values_ask (text_of self.old.list) bounds.now most_values) }
+    {
+        for (j, span) in bounds.iter().enumerate() {
+            self.mark_value(*span, value_row(j));
+        }
+    }
+
+    // Marks the options, whose text stands from `base` on.
+    fn mark_options(&mut self, options: &[u8], base: usize)
+        requires { Lies (text_of self.old.list) base options.now × (self.old.list.count + length (options_of options.now) < most_names) }
+        ensures { Marked self.old self.new (length (options_of options.now)) (options_ask (options_of options.now)) }
+    {
+        let mut start = base;
+        for option in options.split(|b| *b == b',') {
+            let end = start + option.len();
+            self.mark_value(Span { start, end }, OPTION);
+            start = end + 1;
+        }
+    }
+
+    // Lists `*` and all values of a profile that is not refused.
+    fn compile(&mut self, texts: &Texts, bounds: &[Span; 65])
+        requires { (profile_refusals texts.now ≡ []) × ValuesPlaced texts.now bounds.now }
+        ensures { TableCompiled texts.now bounds.now self.new }
+    {
+        let star = self.copy_texts(texts);
+        let row = Row {
+            layouts: some_set(bounds, 0),
+            variants: some_set(bounds, 32),
+        };
+        self.list_row(star, row);
+        self.mark_values(bounds);
+        let base = texts.model.len() + texts.layouts.len() + texts.variants.len();
+        self.mark_options(texts.options, base);
+    }
 }
 
-// A profile that is not refused: its four texts, `*` and its values listed, and the places of its values.
-pub fn compile(
-    model: &[u8],
-    layouts: &[u8],
-    variants: &[u8],
-    options: &[u8],
-    text: &mut [u8],
-    table: &mut [usize; 1024],
-    rows: &mut [u64; 512],
-    flags: &mut [bool; 1024],
-    bounds: &mut [usize; 130],
-) -> Held
-    requires { (profile_refusals (texts_of model.now layouts.now variants.now options.now) ≡ [])
-        × (length text.old ≡ text_size)
-        × (length rows.old ≡ 512)
-        × (length bounds.old ≡ 130)
-        × (length table.old ≡ 1024) }
-    ensures { CompiledProfile (texts_of model.now layouts.now variants.now options.now)
-        text.new table.new rows.new flags.new bounds.new result }
-{
-    let base = model.len() + layouts.len() + variants.len();
-    let used = copy_texts(model, layouts, variants, options, text);
-    place_values(model, layouts, variants, bounds);
-    let count = mark_profile(&text[0..used], options, base, bounds, table, rows, flags);
-    Held { used, count }
+impl Names {
+    ghost use Rattle.names.specs.Ready.{Ready};
+
+    // A profile that is not refused, with no group yet, in place of what was held.
+    pub fn compile(&mut self, texts: &Texts)
+        requires { profile_refusals texts.now ≡ [] }
+        ensures { Ready texts.now [] self.new }
+    {
+        let bounds = place_values(texts);
+        self.table.compile(texts, &bounds);
+        self.bounds = bounds;
+        self.layouts = texts.layout_count();
+        self.groups = 0;
+    }
 }

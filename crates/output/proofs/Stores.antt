@@ -3,15 +3,15 @@ use Prim.Native.Nat.{ℕ, ◌+◌, ◌-◌, ◌≤◌, ◌<◌, min}
 use native.Mathlib.Nat.{add-zero}
 use native.Mathlib.Numerals.{add-one}
 use native.Mathlib.Omega.{arith}
-use mathlib.Core.Path.{◌≡◌, refl, sym, ◌∙◌}
+use mathlib.Core.Path.{◌≡◌, refl, sym, ap, ◌∙◌}
 use mathlib.Core.List.{[], ◌∷◌, ◌++◌, append_assoc, append-nil}
 use mathlib.Core.Bool.{Bool, true, false}
-use lib.ListN.{length, take, drop, get_or, set, length-set, length-append, take-append-drop}
-use lib.Seq.{set_out, set_comm, take-suc-set, take-set-le, take-add, drop-drop, drop-set-lt}
+use lib.ListN.{length, take, drop, get_or, set, length-set, length-append, length-take, take-append-drop, drop_of_length-le}
+use lib.Seq.{set_out, set_comm, take-suc-set, take-set-le, drop-set-lt}
 use lib.Dec.{ltb}
 use borrow.Author.Tests.{ltb-true, ltb-false}
-use Rattle.text.specs.Bytes.{Text, part}
-use Rattle.text.proofs.Positions.{part_empty, part_snoc, length_part}
+use Rattle.std.proofs.lemmas.List.{take_more}
+use Rattle.text.specs.Bytes.{Text}
 use Rattle.output.specs.Store.{stored, farthest, past, Wrote}
 
 pub stored_append : (d : Text) (at : ℕ) (x y : Text) → stored d at (x ++ y) ≡ stored (stored d at x) (at + length x) y
@@ -71,91 +71,39 @@ stored_front d t h =
     let b : drop (length t) (stored d 0 t) ≡ drop (length t) d = drop_stored d 0 t (length t) (omega arith) in
     sym (take-append-drop (length t) (stored d 0 t)) ∙ rw (a, b)
 
--- the loop of `copy`
-pub copied_none : (d s : Text) (start from : ℕ) → d ≡ stored d start (part s from from)
+pub stored_none : (d : Text) (at : ℕ) → stored d at [] ≡ d
 unfolding stored
-copied_none d s start from = rw part_empty
+stored_none d at = refl
 
 stored_one : (d : Text) (at b : ℕ) → set d at b ≡ stored d at (b ∷ [])
 unfolding stored
 stored_one d at b = refl
 
-pub stored_none : (d : Text) (at : ℕ) → stored d at [] ≡ d
-unfolding stored
-stored_none d at = refl
+-- one byte more of a text that is stored
+pub stored_next : (d d' t : Text) (at i : ℕ) → d' ≡ stored d at (take i t) → i < length t → set d' (at + i) (get_or t i 0) ≡ stored d at (take (i + 1) t)
+stored_next d d' t at i e h =
+    let z : length (take i t) ≡ i = length-take i t ∙ omega arith in
+    sym (rw (take_more t i 0 h, stored_append, z, ← e) (sym (stored_one d' (at + i) (get_or t i 0))))
 
-pub copied_more : (d d' s : Text) (start from i o : ℕ) → from ≤ i → i < length s → o ≡ start + (i - from) → d' ≡ stored d start (part s from i) →
-    set d' o (get_or s i 0) ≡ stored d start (part s from (i + 1))
-copied_more d d' s start from i o h l e g =
-    rw (part_snoc s from i h l, stored_append, length_part s from i (omega arith), ← e, ← g) (stored_one d' o (get_or s i 0))
-
-pub cut_part : (s : Text) (a e n : ℕ) → a ≤ e → a + n ≤ e → e ≤ length s → part s a e ≡ part s a (a + n) ++ part s (a + n) e
-unfolding part
-cut_part s a e n h k l =
-    let x : e - a ≡ n + (e - (a + n)) = omega arith in
-    let y : a + n - a ≡ n = omega arith in
-    rw (x, y, take-add, drop-drop)
-
--- places within the buffer
-pub copy_inside : (n start l k : ℕ) → n ≤ l - start → k < n → start + k < l
-copy_inside n start l k b c = omega arith
-
-pub set_inside : (d : Text) (i b j : ℕ) → j < length d → j < length (set d i b)
-set_inside d i b j h = rw (length-set d i b) h
-
--- at most three bytes
-module _ (d s : Text) (start from : ℕ) where
-  copied_one : from < length s → set d start (get_or s from 0) ≡ stored d start (part s from (from + 1))
-  copied_one l = copied_more d d s start from from start (omega arith) l (omega arith) (copied_none d s start from)
-
-  copied_two : from + 1 < length s → set (set d start (get_or s from 0)) (start + 1) (get_or s (from + 1) 0) ≡ stored d start (part s from (from + 2))
-  copied_two l =
-      let z : from + 1 + 1 ≡ from + 2 = omega arith in
-      rw z at (copied_more d (set d start (get_or s from 0)) s start from (from + 1) (start + 1) (omega arith) l (omega arith) (copied_one (omega arith)))
-
-  copied_three : from + 2 < length s →
-      set (set (set d start (get_or s from 0)) (start + 1) (get_or s (from + 1) 0)) (start + 2) (get_or s (from + 2) 0) ≡ stored d start (part s from (from + 3))
-  copied_three l =
-      let z : from + 2 + 1 ≡ from + 3 = omega arith in
-      rw z at (copied_more d (set (set d start (get_or s from 0)) (start + 1) (get_or s (from + 1) 0)) s start from (from + 2) (start + 2) (omega arith) l (omega arith) (copied_two (omega arith)))
-
-  module _ (n : ℕ) (h : from + n ≤ length s) where
-    pub few_none : n ≡ 0 → d ≡ stored d start (part s from (from + n))
-    few_none e = let z : from + n ≡ from = omega arith in rw z (copied_none d s start from)
-
-    pub few_one : n ≡ 1 → set d start (get_or s from 0) ≡ stored d start (part s from (from + n))
-    few_one e = rw e (copied_one (omega arith))
-
-    pub few_two : n ≡ 2 → set (set d start (get_or s from 0)) (start + 1) (get_or s (from + 1) 0) ≡ stored d start (part s from (from + n))
-    few_two e = rw e (copied_two (omega arith))
-
-    pub few_three : n ≡ 3 → set (set (set d start (get_or s from 0)) (start + 1) (get_or s (from + 1) 0)) (start + 2) (get_or s (from + 2) 0) ≡ stored d start (part s from (from + n))
-    few_three e = rw e (copied_three (omega arith))
-
-pub few_whole : (d d' s : Text) (start from e : ℕ) → from ≤ e → d' ≡ stored d start (part s from (from + (e - from))) → d' ≡ stored d start (part s from e)
-few_whole d d' s start from e h g = let z : from + (e - from) ≡ e = omega arith in rw z at g
-
--- a part of which only what has room is copied
-pub wrote_part : (d d' s : Text) (at a e n r : ℕ) → a ≤ e → e ≤ length s → n ≡ min (e - a) (length d - at) →
-    d' ≡ stored d at (part s a (a + n)) → r ≡ past at (e - a) → Wrote d d' at (part s a e) r
-wrote_part d d' s at a e n r h l m g q =
-    let k : length (part s a (a + n)) ≡ n = length_part s a (a + n) (omega arith) ∙ omega arith in
+-- a text of which only what has room is stored
+pub wrote_room : (d d' t : Text) (at n r : ℕ) → n ≡ min (length t) (length d - at) → d' ≡ stored d at (take n t) → r ≡ past at (length t) → Wrote d d' at t r
+wrote_room d d' t at n r m g q =
     record {
-      text = g ∙ sym (rw (cut_part s a e n h (omega arith) l, stored_append, k) (go (ltb n (e - a)) refl));
-      next = rw (length_part s a e l) q;
+      text = g ∙ sym (ap (stored d at) (sym (take-append-drop n t)) ∙ stored_append d at (take n t) (drop n t) ∙ go (ltb n (length t)) refl);
+      next = q;
     }
   where
     x : Text
-    x = part s a (a + n)
+    x = take n t
 
-    go : (t : Bool) → ltb n (e - a) ≡ t → stored (stored d at x) (at + n) (part s (a + n) e) ≡ stored d at x
+    k : length x ≡ n
+    k = length-take n t ∙ omega arith
+
+    go : (b : Bool) → ltb n (length t) ≡ b → stored (stored d at x) (at + length x) (drop n t) ≡ stored d at x
     go true z =
-        let y : n < e - a = ltb-true n (e - a) z in
-        stored_behind (stored d at x) (at + n) (part s (a + n) e) (rw (length_stored d at x) (omega arith))
-    go false z =
-        let y : e - a ≤ n = ltb-false n (e - a) z in
-        let w : a + n ≡ e = omega arith in
-        rw (w, part_empty, stored_none)
+        let y : n < length t = ltb-true n (length t) z in
+        stored_behind (stored d at x) (at + length x) (drop n t) (rw (length_stored d at x) (omega (arith, k)))
+    go false z = rw (drop_of_length-le t (ltb-false n (length t) z), stored_none)
 
 -- One text after the other is the joined text, and nothing written is the empty text. A value that is written in pieces is built of these.
 -- The room ends where positions do, so that what is counted behind it is stored nowhere.

@@ -1,7 +1,6 @@
 pub mod Options
 pub mod Numbers
+pub mod Parts
 pub mod Splitting
-pub mod Checking
 pub mod OptionFields
-pub mod Refused
 pub mod Counts

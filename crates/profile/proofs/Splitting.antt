@@ -1,17 +1,20 @@
 -- A text read field by field.
-use Prim.Native.Nat.{ℕ, zero, suc, ◌+◌, ◌-◌, ◌≤◌, ◌<◌}
+use Prim.Native.Nat.{ℕ, zero, suc, ◌+◌, ◌-◌, ◌≤◌}
 use native.Mathlib.Omega.{arith}
 use mathlib.Core.Path.{◌≡◌, refl, ap, ◌∙◌}
-use mathlib.Core.List.{List, [], ◌∷◌, ◌++◌}
-use mathlib.Core.Bool.{Bool, true, false, cond}
-use lib.Dec.{eqb}
-use lib.ListN.{length, drop, get_or, drop_of_length-le}
-use borrow.Author.Tests.{eq-eqb, ne_eqb}
+use mathlib.Core.List.{List, [], ◌∷◌}
+use mathlib.Core.Bool.{Bool, true, false, not, cond}
+use lib.Dec.{eqb, ltb}
+use lib.ListN.{length, take, drop, get_or, length-drop}
+use borrow.Author.Tests.{eq-eqb, ne_eqb, ltb-false}
+use Rattle.std.proofs.Common.{Some, None, unwrap_or}
+use Rattle.std.specs.List.{position_or_len, prefix_len}
+use Rattle.std.proofs.lemmas.List.{drop-drop}
+use Rattle.std.proofs.lemmas.List.Sums.{prefix_len-le-length}
 use Rattle.text.specs.Bytes.{Text, part}
-use Rattle.text.proofs.Comparing.{drop_at}
-use Rattle.text.proofs.Positions.{part_empty, part_snoc}
 use Rattle.profile.specs.Profile.{push, fields}
 use Rattle.profile.specs.Splitting.{behind, FieldEnd}
+use Rattle.profile.proofs.Parts.{comma}
 
 -- the clauses of the definitions
 
@@ -55,110 +58,55 @@ some_field (b ∷ r) = go (eqb b 44)
     go true = omega arith
     go false = some_push b (fields r)
 
--- a text before the first field
+-- the first field ends at the first comma
 
-pub pushes : Text → List Text → List Text
-pushes [] fs = fs
-pushes (b ∷ w) fs = push b (pushes w fs)
+first_field : (t : Text) → fields t ≡ take (position_or_len comma t) t ∷ behind (drop (position_or_len comma t) t)
+unfolding fields behind push
+first_field [] = refl
+first_field (b ∷ r) = go (eqb b 44) refl (first_field r)
+  where
+    go : (t : Bool) → eqb b 44 ≡ t → fields r ≡ take (position_or_len comma r) r ∷ behind (drop (position_or_len comma r) r) →
+        fields (b ∷ r) ≡ take (position_or_len comma (b ∷ r)) (b ∷ r) ∷ behind (drop (position_or_len comma (b ∷ r)) (b ∷ r))
+    go true e ih = rw e
+    go false e ih = let z : 1 + prefix_len (λ x. not (comma x)) r ≡ suc (position_or_len comma r) = omega arith in rw (e, ih, z)
 
-pushes_snoc : (w : Text) (b : ℕ) (fs : List Text) → pushes (w ++ (b ∷ [])) fs ≡ pushes w (push b fs)
-unfolding pushes
-pushes_snoc [] b fs = refl
-pushes_snoc (x ∷ w) b fs = ap (push x) (pushes_snoc w b fs)
+found_at : (n p l : ℕ) → Some n ≡ cond (ltb p l) (Some p) None → n ≡ p
+found_at n p l e = go (ltb p l) e
+  where
+    go : (t : Bool) → Some n ≡ cond t (Some p) None → n ≡ p
+    go true e = ap (λ o. unwrap_or o 0) e
+    go false e = absurd (let z : ◌≡◌ {A = ℕ} 0 1 = cc in omega arith)
 
-push_cons : (b : ℕ) (f : Text) (fs : List Text) → push b (f ∷ fs) ≡ (b ∷ f) ∷ fs
-unfolding push
-push_cons b f fs = refl
+not_found : (p l : ℕ) → None ≡ cond (ltb p l) (Some p) None → l ≤ p
+not_found p l e = go (ltb p l) refl e
+  where
+    go : (t : Bool) → ltb p l ≡ t → None ≡ cond t (Some p) None → l ≤ p
+    go true z e = absurd (let z : ◌≡◌ {A = ℕ} 0 1 = cc in omega arith)
+    go false z e = ltb-false p l z
 
-pushes_nil : (fs : List Text) → pushes [] fs ≡ fs
-unfolding pushes
-pushes_nil fs = refl
+-- the search of `field_end`, among the bytes l from `from` on
+module _ (s : Text) (from : ℕ) (h : from ≤ length s) where
+  found_end : (p : ℕ) → position_or_len comma (drop from s) ≡ p → p ≤ length s - from → FieldEnd s from (from + p)
+  unfolding part
+  found_end p e k =
+      let z : from + p - from ≡ p = omega arith in
+      record { low = omega arith; high = omega arith; split = first_field (drop from s) ∙ rw (e, z, drop-drop) }
 
-pushes_empty : (w : Text) (fs : List Text) → pushes w ([] ∷ fs) ≡ w ∷ fs
-unfolding pushes
-pushes_empty [] fs = refl
-pushes_empty (x ∷ w) fs = rw (pushes_empty w fs, push_cons)
+  module _ (l : Text) (q : l ≡ drop from s) where
+    all_bytes : length l ≡ length s - from
+    all_bytes = rw q (length-drop from s)
 
--- the loop of `field_end`: the bytes up to i belong to the field
-pub record InField (s : Text) (from i : ℕ) : Type 0 where
-  pub low : from ≤ i
-  pub high : i ≤ length s
-  pub split : fields (drop from s) ≡ pushes (part s from i) (fields (drop i s))
+    pub end_at : (n : ℕ) → Some n ≡ cond (ltb (position_or_len comma l) (length l)) (Some (position_or_len comma l)) None → FieldEnd s from (from + n)
+    end_at n e =
+        let z : n ≡ position_or_len comma l = found_at _ _ _ e in
+        found_end n (rw (← q, z)) (rw z (omega (arith, all_bytes, prefix_len-le-length (λ x. not (comma x)) l)))
 
-module _ (s : Text) (from : ℕ) where
-  pub in_field_start : from ≤ length s → InField s from from
-  in_field_start h = record { low = omega arith; high = h; split = rw (part_empty s from, pushes_nil) }
-
-  module _ (i : ℕ) (v : InField s from i) where
-    pub in_field_more : i < length s → (get_or s i 0 ≡ 44 → ⊥) → InField s from (i + 1)
-    in_field_more h n =
-        record {
-          low = omega (arith, v.low);
-          high = omega arith;
-          split = v.split ∙ rw (drop_at s i h, fields_other _ _ n, part_snoc s from i v.low h, pushes_snoc);
-        }
-
-    pub in_field_comma : i < length s → get_or s i 0 ≡ 44 → FieldEnd s from i
-    in_field_comma h e =
-        record {
-          low = v.low;
-          high = v.high;
-          split = v.split ∙ rw (drop_at s i h, fields_comma _ _ e, pushes_empty, behind_cons);
-        }
-
-    pub in_field_end : length s ≤ i → FieldEnd s from i
-    in_field_end h =
-        let z = drop_of_length-le s h in
-        record { low = v.low; high = v.high; split = v.split ∙ rw (z, fields_nil, pushes_empty, behind_nil) }
-
--- the loop of `field_count`: n - 1 fields end before i
-pub record Counted (s : Text) (n i : ℕ) : Type 0 where
-  pub high : i ≤ length s
-  pub few : n ≤ i + 1
-  pub rest : n + length (fields (drop i s)) ≡ length (fields s) + 1
-
-module _ (s : Text) where
-  pub counted_start : Counted s 1 0
-  counted_start = record { high = omega arith; few = omega arith; rest = omega arith }
-
-  module _ (n i : ℕ) (v : Counted s n i) where
-    pub counted_comma : i < length s → get_or s i 0 ≡ 44 → Counted s (n + 1) (i + 1)
-    counted_comma h e =
-        let z : length (fields (drop i s)) ≡ suc (length (fields (drop (i + 1) s))) = rw (drop_at s i h, fields_comma _ _ e) in
-        record { high = omega arith; few = omega (arith, v.few); rest = omega (arith, v.rest) }
-
-    pub counted_other : i < length s → (get_or s i 0 ≡ 44 → ⊥) → Counted s n (i + 1)
-    counted_other h e =
-        let z : length (fields (drop i s)) ≡ length (fields (drop (i + 1) s)) =
-        rw (drop_at s i h, fields_other _ _ e) (length_push _ _ (some_field (drop (i + 1) s))) in
-        record { high = omega arith; few = omega (arith, v.few); rest = omega (arith, v.rest) }
-
-    pub counted_end : length s ≤ i → n ≡ length (fields s)
-    counted_end h =
-        let z : length (fields (drop i s)) ≡ 1 = rw (drop_of_length-le s h, fields_nil) in
-        omega (arith, v.rest)
-
--- the loop of `field`: k fields are left to pass
-pub record Passed (s : Text) (k start left : ℕ) : Type 0 where
-  pub high : start ≤ length s
-  pub rest : get_or (fields s) k [] ≡ get_or (fields (drop start s)) left []
-
-get_d_suc : (t : Text) (ts : List Text) (n : ℕ) → 0 < n → get_or (t ∷ ts) n [] ≡ get_or ts (n - 1) []
-get_d_suc t ts zero h = absurd (omega arith)
-get_d_suc t ts (suc n) h = let z : suc n - 1 ≡ n = omega arith in rw z
+    pub end_last : None ≡ cond (ltb (position_or_len comma l) (length l)) (Some (position_or_len comma l)) None → FieldEnd s from (length s)
+    end_last e =
+        let z : position_or_len comma l ≡ length s - from = omega (arith, not_found _ _ e, all_bytes, prefix_len-le-length (λ x. not (comma x)) l) in
+        let y : from + (length s - from) ≡ length s = omega arith in
+        rw y at (found_end (length s - from) (rw (← q) z) (omega arith))
 
 pub get_d_nil : (n : ℕ) → get_or {A = Text} [] n [] ≡ []
 get_d_nil zero = refl
 get_d_nil (suc n) = refl
-
-module _ (s : Text) (k : ℕ) where
-  pub passed_start : Passed s k 0 k
-  passed_start = record { high = omega arith; rest = refl }
-
-  module _ (start left : ℕ) (v : Passed s k start left) (e : ℕ) (f : FieldEnd s start e) where
-    pub passed_more : 0 < left → e < length s → Passed s k (e + 1) (left - 1)
-    passed_more h l =
-        record {
-          high = omega arith;
-          rest = v.rest ∙ rw (f.split, get_d_suc (part s start e) (behind (drop e s)) left h, drop_at s e l, behind_cons);
-        }

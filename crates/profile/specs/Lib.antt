@@ -3,3 +3,4 @@ pub mod Refusals
 pub mod Options
 pub mod Splitting
 pub mod Places
+pub mod Spans

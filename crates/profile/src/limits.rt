@@ -2,62 +2,34 @@
 ghost use Rattle.std.specs.Prelude.{◌≡◌, [], ◌∷◌};
 ghost use Rattle.text.specs.Bytes.{any_of};
 ghost use Rattle.profile.specs.Profile.{fields};
-ghost use Rattle.profile.specs.Refusals.{outside as outside_byte, bad_text};
+ghost use Rattle.profile.specs.Refusals.{outside, long_field, bad_text};
 
-// A byte that is not from 0x21 to 0x7E.
-fn outside(b: u8) -> bool
-    ensures { result ≡ outside_byte b }
+// Some byte is not from 0x21 to 0x7E.
+fn any_outside(text: &[u8]) -> bool
+    ensures { result ≡ any_of outside text.now }
 {
-    b < 33 || 126 < b
+    text.iter().any(|b| !b.is_ascii_graphic())
 }
 
-fn any_outside(text: &[u8]) -> bool
-    ensures { result ≡ any_of outside_byte text.now }
+// Some field is longer than 64 bytes.
+fn any_long(text: &[u8]) -> bool
+    ensures { result ≡ any_of long_field (fields text.now) }
 {
-    let mut i: usize = 0;
-    while i < text.len() {
-        if outside(text[i]) {
-            return true;
-        }
-        i += 1;
-    }
-    false
+    text.split(|b| *b == b',').any(|field| 64 < field.len())
 }
 
 // The model is bad: it is one field, commas included.
+#[tactic(auto, unfolding(crate::specs::Refusals::bad_text, crate::specs::Refusals::long_field, text::specs::Bytes::any_of))]
 pub fn bad_model(text: &[u8]) -> bool
     ensures { result ≡ bad_text text.now (text.now ∷ []) }
 {
-    if 64 < text.len() {
-        return true;
-    }
-    any_outside(text)
+    64 < text.len() || any_outside(text)
 }
 
 // A text that is split at commas is bad.
+#[tactic(auto, unfolding(crate::specs::Refusals::bad_text))]
 pub fn bad_fields(text: &[u8]) -> bool
     ensures { result ≡ bad_text text.now (fields text.now) }
 {
-    if 1024 < text.len() {
-        return true;
-    }
-    let mut start: usize = 0;
-    let mut i: usize = 0;
-    while i < text.len() {
-        let b = text[i];
-        if outside(b) {
-            return true;
-        }
-        if b == 44 {
-            let long = 64 < i - start;
-            if long {
-                return true;
-            }
-            i += 1;
-            start = i;
-        } else {
-            i += 1;
-        }
-    }
-    64 < i - start
+    1024 < text.len() || any_outside(text) || any_long(text)
 }

@@ -10,7 +10,7 @@ use Rattle.profile.specs.Profile.{push, fields, drop_empty, options_of, profile_
 use Rattle.profile.specs.Refusals.{outside, long_field, bad_text, text_refusals, count_refusals, profile_refusals}
 use Rattle.rules.specs.Entries.{before, after, set_shape, set_entry, group_entry, heading_entry, rule_entry, entry_of}
 use Rattle.rules.specs.Faults.{defined, with_group, left_words, right_words, rule_shape, shape_fault, rule_fault, orphans, head_faults, faults, line_faults, file_refusals}
-use Rattle.rules.specs.Headings.{decimal, up_from, numbered_in, index_of, left_item, component_of, columns_in, indexes_in, column_number, index_number, known_index, known_item, distinct, alike, first_index, heading_of, good_items, has_word}
+use Rattle.rules.specs.Headings.{decimal, up_from, numbered_in, index_of, left_item, component_of, columns_in, indexes_in, column_number, index_number, known_item, distinct, alike, first_index, heading_of, good_items, has_word}
 use Rattle.rules.specs.Percent.{which_of, variable_of, which_length, variable_length, is_prefix, in_parens, piece_after, piece_length, pieces, bad_which, bad_variable, bad_piece, malformed}
 use Rattle.rules.specs.Sections.{add_entry, sections}
 use Rattle.rules.specs.Words.{is_equals, is_star, has_dollar, ordinary, is_group_name, left_word}
@@ -102,5 +102,5 @@ examples =
     program ∷ []
 
 pub checked : map resolved examples ≡ map (λ e. e.wanted) examples
-unfolding examples symbols within layouts word program profile resolved outcome pairs bytes same empty first rest all_of any_of concat_map run words heading feeds inside lines_of lines class_of step marks refused_if refused_as bad_byte too_long words_fault push fields drop_empty options_of profile_of layout_count outside long_field bad_text text_refusals count_refusals profile_refusals before after set_shape set_entry group_entry heading_entry rule_entry entry_of defined with_group left_words right_words rule_shape shape_fault rule_fault orphans head_faults faults line_faults file_refusals decimal up_from numbered_in index_of left_item component_of columns_in indexes_in column_number index_number known_index known_item distinct alike first_index heading_of good_items has_word which_of variable_of which_length variable_length is_prefix in_parens piece_after piece_length pieces bad_which bad_variable bad_piece malformed add_entry sections is_equals is_star has_dollar ordinary is_group_name left_word is_sign signed cuts ends_all stem copy copies spread expanded choose value_of piece_text filled texts_from ten_texts sum joined total no_room refusals first_of answer number_of place_of values_of base additions fired rule_fires fires_at set_fires rule_by_rule head_fires firings file_firings layouts_at per_layout layouts_of members word_matches value_matches column_matches rule_matches is_options ends_line
+unfolding examples symbols within layouts word program profile resolved outcome pairs bytes same empty first rest all_of any_of concat_map run words heading feeds inside lines_of lines class_of step marks refused_if refused_as bad_byte too_long words_fault push fields drop_empty options_of profile_of layout_count outside long_field bad_text text_refusals count_refusals profile_refusals before after set_shape set_entry group_entry heading_entry rule_entry entry_of defined with_group left_words right_words rule_shape shape_fault rule_fault orphans head_faults faults line_faults file_refusals decimal up_from numbered_in index_of left_item component_of columns_in indexes_in column_number index_number known_item distinct alike first_index heading_of good_items has_word which_of variable_of which_length variable_length is_prefix in_parens piece_after piece_length pieces bad_which bad_variable bad_piece malformed add_entry sections is_equals is_star has_dollar ordinary is_group_name left_word is_sign signed cuts ends_all stem copy copies spread expanded choose value_of piece_text filled texts_from ten_texts sum joined total no_room refusals first_of answer number_of place_of values_of base additions fired rule_fires fires_at set_fires rule_by_rule head_fires firings file_firings layouts_at per_layout layouts_of members word_matches value_matches column_matches rule_matches is_options ends_line
 checked = refl

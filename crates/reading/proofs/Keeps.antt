@@ -19,14 +19,12 @@ use Rattle.answers.specs.Firings.{Firing, rule_fires}
 use Rattle.bitsets.specs.Sets.{is_in}
 use Rattle.firing.specs.declared.Cursors.{Cursors}
 use Rattle.firing.specs.Writing.{run_buf, run_cur, Low, FiredRule}
-use Rattle.firing.specs.Line.{Fires, RightWords}
+use Rattle.firing.specs.Rule.{Fires, RightWords}
 use Rattle.firing.proofs.Going.{Going, going_start, going_more, going_end}
-use Rattle.rules.specs.Held.{heading_by, SetSized}
-use Rattle.rules.proofs.HeldHeadings.{components_are}
+use Rattle.rules.specs.Held.{heading_by}
 use Rattle.reading.specs.declared.OpenSet.{OpenSet}
 use Rattle.reading.specs.Owed.{layouts_in}
-use Rattle.reading.specs.Seeking.{PlaceAt}
-use Rattle.reading.specs.Keeping.{most_places, Noted, place_fires, KeptFired}
+use Rattle.reading.specs.Keeping.{PlaceAt, most_places, Noted, place_fires, KeptFired}
 
 -- a place kept
 
@@ -121,10 +119,11 @@ module _ (p : Profile) (o : OpenSet) (s : Text) (ps : List ℕ) (d₀ : Text) (q
                 rw (next l, y) at (v.going l);
           }
 
-      pub kept_more : SetSized o.set → (d' : Text) (q' : Cursors) → is_in k o.wanted ≡ false → PlaceAt o.set s (get_or ps k 0) →
-          FiredRule p d d' q q' k o.set.components (drop 1 (left s (get_or ps k 0))) → KeptGoing (k + 1) d' q'
+      -- the set's components are the first n of cs
+      pub kept_more : (n : ℕ) (cs : List ℕ) → (heading_by o.set).components ≡ take n cs → length (heading_by o.set).components ≡ n → (d' : Text) (q' : Cursors) →
+          is_in k o.wanted ≡ false → PlaceAt o.set s (get_or ps k 0) → FiredRule p d d' q q' k cs (drop 1 (left s (get_or ps k 0))) → KeptGoing (k + 1) d' q'
       unfolding place_fires
-      kept_more sized d' q' e w f =
+      kept_more n cs is size d' q' e w f =
           record {
             low = omega (arith, v.low);
             high = omega arith;
@@ -136,31 +135,30 @@ module _ (p : Profile) (o : OpenSet) (s : Text) (ps : List ℕ) (d₀ : Text) (q
                 going_more d₀ q₀ _ d q _ _ d' q' z (f.bytes (l k) ∙ ap (run_buf d q) (told (l k))) (f.places (l k) ∙ ap (run_cur q) (told (l k)));
           }
         where
-          count : length (drop 1 (left s (get_or ps k 0))) ≡ o.set.right
-          count = length-drop 1 (left s (get_or ps k 0)) ∙ omega (arith, w.count)
+          count : length (drop 1 (left s (get_or ps k 0))) ≡ n
+          count = length-drop 1 (left s (get_or ps k 0)) ∙ omega (arith, w.count, size)
 
-          told : (l : ℕ) → rule_fires p l k o.set.components (drop 1 (left s (get_or ps k 0))) ≡ rule_fires p l k (heading_by o.set).components (drop 1 (left s (get_or ps k 0)))
+          told : (l : ℕ) → rule_fires p l k cs (drop 1 (left s (get_or ps k 0))) ≡ rule_fires p l k (heading_by o.set).components (drop 1 (left s (get_or ps k 0)))
           told l =
-              first_components p l k o.set.components (drop 1 (left s (get_or ps k 0)))
-              ∙ ap (λ (y : List ℕ). rule_fires p l k y (drop 1 (left s (get_or ps k 0)))) (ap (λ (i : ℕ). take i o.set.components) count ∙ sym (components_are o.set sized))
+              first_components p l k cs (drop 1 (left s (get_or ps k 0)))
+              ∙ ap (λ (y : List ℕ). rule_fires p l k y (drop 1 (left s (get_or ps k 0)))) (ap (λ (i : ℕ). take i cs) count ∙ sym is)
 
 -- the right words at a place
-pub place_words : (h : SetHeading) (s : Text) (place : ℕ) → SetSized h → PlaceAt h s place → RightWords (drop 1 (left s place)) h.right
-place_words h s place z w =
+pub place_words : (h : SetHeading) (s : Text) (place n : ℕ) → length (heading_by h).components ≡ n → n ≤ 5 → PlaceAt h s place → RightWords (drop 1 (left s place)) n
+place_words h s place n size few w =
     record {
-      all = length-drop 1 (left s place) ∙ omega (arith, w.count);
-      few = z.right;
+      all = length-drop 1 (left s place) ∙ omega (arith, w.count, size);
+      few = few;
       short = any_drop too_long 1 (left s place) w.short;
     }
 
 -- firing goes on with other cursors, at another layout
-pub fires_on : (s : Text) (b : List ℕ) (n k k' : ℕ) (x x' d d' : Text) (q q' : Cursors) → Fires s b n k x d q → k' ≤ 32 → length x' ≡ length x → length d' ≡ length d → Low q'.at →
-    Fires s b n k' x' d' q'
-fires_on s b n k k' x x' d d' q q' v h e f g =
+pub fires_on : (n k k' : ℕ) (x x' d d' : Text) (q q' : Cursors) → Fires n k x d q → k' ≤ 32 → length x' ≡ length x → length d' ≡ length d → Low q'.at → Fires n k' x' d' q'
+fires_on n k k' x x' d d' q q' v h e f g =
     record {
-      expands = record { placed = v.expands.placed; few = v.expands.few; low = h };
       some = v.some;
       digit = v.digit;
+      layout = h;
       room = rw e v.room;
       scratch = rw e v.scratch;
       buf = rw f v.buf;

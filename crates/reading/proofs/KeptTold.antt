@@ -7,10 +7,11 @@ use lib.ListN.{length, get_or, drop}
 use Rattle.text.specs.Bytes.{Text, Words, concat_map}
 use Rattle.text.specs.Reading.{left}
 use Rattle.profile.specs.Profile.{Texts, Profile, profile_of, layout_count}
-use Rattle.profile.specs.Places.{profile_at, ValuesOf}
+use Rattle.text.specs.declared.Span.{Span}
+use Rattle.profile.specs.Spans.{profile_at, ValuesOf}
 use Rattle.rules.specs.Faults.{right_words}
 use Rattle.values.specs.Spread.{expanded}
-use Rattle.values.proofs.Places.{placed_expanded}
+use Rattle.values.proofs.Placed.{placed_expanded}
 use Rattle.answers.specs.Firings.{rule_fires, fires_at}
 use Rattle.bitsets.specs.Sets.{is_in}
 use Rattle.firing.specs.declared.Cursors.{Cursors}
@@ -28,7 +29,7 @@ fires_alike p p' l k h [] ws = refl
 fires_alike p p' l k h (c ∷ cs) [] = refl
 fires_alike p p' l k h (c ∷ cs) (w ∷ ws) = rw (h w, fires_alike p p' l k h cs ws) refl
 
-module _ (x : Texts) (d : Text) (b : List ℕ) (n : ℕ) (v : ValuesOf x d b) (count : n ≡ layout_count (profile_of x)) (few : n ≤ 32) (missing : length (profile_of x).variants ≤ n)
+module _ (x : Texts) (d : Text) (b : List Span) (n : ℕ) (v : ValuesOf x d b) (count : n ≡ layout_count (profile_of x)) (few : n ≤ 32) (missing : length (profile_of x).variants ≤ n)
     (o : OpenSet) (s : Text) (ps : List ℕ) (kept : Kept)
     (words : (k : ℕ) → o.first ≤ k → k < o.first + o.count → is_in k o.wanted ≡ false → drop 1 (left s (get_or ps k 0)) ≡ right_words (heading_by o.set) (kept k).text) where
   same_fires : concat_map (place_fires (profile_at d b n) o s ps (λ k. (kept k).number)) (layouts_in o) ≡ kept_fires (profile_of x) o kept

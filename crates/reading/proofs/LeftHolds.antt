@@ -14,8 +14,7 @@ use Rattle.rules.specs.declared.Column.TheVariants as column
 use Rattle.answers.specs.Layouts.{per_layout}
 use Rattle.bitsets.specs.Sets.{is_in}
 use Rattle.bitsets.proofs.Bits.{in_none}
-use borrow.Author.Tests.{ne_eqb}
-use Rattle.rules.specs.Held.{column_by}
+use Rattle.names.specs.declared.table.Table.{Table}
 use Rattle.names.specs.declared.Row.{Row}
 use Rattle.names.specs.Rows.{Question, Level, says, Tells}
 use Rattle.names.specs.Compiled.{Rowed}
@@ -42,9 +41,9 @@ and_assoc : (a b c : Bool) → (a && b) && c ≡ a && (b && c)
 and_assoc true b c = refl
 and_assoc false b c = refl
 
-module _ (d : Text) (t rows : List ℕ) (flags : List Bool) (count : ℕ) (c : Column) (s : Text) (x : LeftWords) where
-  pub held_word : (a e l f : ℕ) (row : Row) (m : ℕ) → FoundWord s x.at x.line a e l f → Rowed d t rows flags count (part s a e) row →
-      ((k : ℕ) → is_in k m ≡ (is_in k x.layouts && says row k c)) → LeftHeld d t rows flags count c s x (record { layouts = m; at = e; line = l })
+module _ (t : Table) (c : Column) (s : Text) (x : LeftWords) where
+  pub held_word : (a e l f : ℕ) (row : Row) (m : ℕ) → FoundWord s x.end.at x.end.line a e l f → Rowed t (part s a e) row →
+      ((k : ℕ) → is_in k m ≡ (is_in k x.layouts && says row k c)) → LeftHeld t c s x (record { layouts = m; end = record { at = e; line = l } })
   held_word a e l f row m w v u =
       record {
         tells = λ q n h k g cs.
@@ -59,8 +58,8 @@ module _ (d : Text) (t rows : List ℕ) (flags : List Bool) (count : ℕ) (c : C
         onto = w.onto;
       }
 
-  pub held_none : (p l : ℕ) → x.at ≤ length s → x.line ≤ x.at + 1 → NoWord s x.at x.line p l →
-      LeftHeld d t rows flags count c s x (record { layouts = 0; at = x.at; line = x.line })
+  pub held_none : (p l : ℕ) → x.end.at ≤ length s → x.end.line ≤ x.end.at + 1 → NoWord s x.end.at x.end.line p l →
+      LeftHeld t c s x (record { layouts = 0; end = x.end })
   held_none p l h few w =
       record {
         tells = λ q n v k g cs. rw (w.none, asked_lacking q k c cs, in_none k) (and-false (is_in k x.layouts));
@@ -79,20 +78,3 @@ all_of m k b e = rw e (sym (and-true (is_in k m)))
 
 pub none_of : (m k : ℕ) (b : Bool) → b ≡ false → is_in k 0 ≡ (is_in k m && b)
 none_of m k b e = rw (e, in_none k) (sym (and-false (is_in k m)))
-
-module _ (row : Row) (c k : ℕ) where
-  pub says_model : c ≡ 1 → says row k (column_by c) ≡ is_in 0 row.layouts
-  unfolding says column_by
-  says_model e = rw e refl
-
-  pub says_layout : c ≡ 2 → says row k (column_by c) ≡ is_in k row.layouts
-  unfolding says column_by
-  says_layout e = rw e refl
-
-  pub says_variant : c ≡ 3 → says row k (column_by c) ≡ is_in k row.variants
-  unfolding says column_by
-  says_variant e = rw e refl
-
-  pub says_options : (c ≡ 1 → ⊥) → (c ≡ 2 → ⊥) → (c ≡ 3 → ⊥) → says row k (column_by c) ≡ is_in 0 row.variants
-  unfolding says column_by
-  says_options a b d = rw (ne_eqb c 1 a, ne_eqb c 2 b, ne_eqb c 3 d) refl

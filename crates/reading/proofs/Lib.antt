@@ -10,6 +10,5 @@ pub mod KeptTold
 pub mod Stepping
 pub mod SetHeads
 pub mod GroupHeads
-pub mod Parts
 pub mod FileReads
 pub mod ProfileReads

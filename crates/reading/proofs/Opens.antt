@@ -27,9 +27,9 @@ use Rattle.reading.specs.Keeping.{most_places}
 use Rattle.reading.specs.Opening.{closed_set, Opened}
 use Rattle.reading.proofs.Owing.{each_same}
 
-present_is : (h : SetHeading) → SetSized h → present_by h ≡ present_of (heading_by h)
+present_is : (h : SetHeading) → present_by h ≡ present_of (heading_by h)
 unfolding present_of heading_by
-present_is h w = sym (rw (columns_length h w, components_length h w) refl)
+present_is h = sym (rw (columns_length h, components_length h) refl)
 
 -- at no layout nothing fires
 nowhere : (look : Text → Words) (p : Profile) (h : Heading) (rs : List Rule) → rule_by_rule look p h [] rs ≡ []
@@ -68,17 +68,14 @@ module _ (h : SetHeading) (n : ℕ) (sized : SetSized h) (one : FromOne h.index)
       (record {
         held =
             record {
-              sized = sized;
-              left = rw e sized.left;
-              right = rw e sized.right;
-              heading = λ y. absurd (y refl);
+              seekable = record { columns = rw (columns_length h) sized.some; left = rw e h.columns.few; right = rw e h.components.few; heading = λ y. absurd (y refl) };
               among = λ j k a b. absurd (omega arith);
               all = record { all = λ y. absurd (no y) };
               some = some;
             };
         range = omega arith;
         set = refl;
-        present = e ∙ present_is h sized;
+        present = e ∙ present_is h;
         owes = λ gs q c kept rs.
             owes_nothing (members gs) q p h kept rs
             ∙ sym (head_nowhere gs q (heading_by h) rs (ap (λ (i : ℕ). layouts_of i (heading_by h)) c ∙ (sym is ∙ up_none r.count r.first z)));
@@ -106,17 +103,20 @@ module _ (h : SetHeading) (n : ℕ) (sized : SetSized h) (one : FromOne h.index)
         record {
           held =
               record {
-                sized = sized;
-                left = rw e sized.left;
-                right = rw e sized.right;
-                heading = λ y. e ∙ present_is h sized;
+                seekable =
+                    record {
+                      columns = rw (columns_length h) sized.some;
+                      left = rw e h.columns.few;
+                      right = rw e h.components.few;
+                      heading = λ y. e ∙ present_is h;
+                    };
                 among = λ j k a b. let x = within j in (omega (arith, x.0), omega (arith, x.1));
                 all = record { all = λ y k a b. u.inside k a b };
                 some = some;
               };
           range = range_low;
           set = refl;
-          present = e ∙ present_is h sized;
+          present = e ∙ present_is h;
           owes = λ gs q c kept rs.
               let s : up_from r.count r.first ≡ layouts_of (layout_count q) (heading_by h) = is ∙ ap (λ (i : ℕ). layouts_of i (heading_by h)) (sym c) in
               rw (

@@ -18,7 +18,7 @@ use Rattle.rules.specs.Headings.{Heading}
 use Rattle.rules.specs.Entries.{ignored, wrong, rule, rule_entry, entry_of}
 use Rattle.rules.specs.Faults.{Groups, rule_shape, shape_fault}
 use Rattle.rules.specs.declared.Present.{Present}
-use Rattle.rules.specs.Checking.{line_of, present_of, present_fault, line_fault, present_after, names_after, check_from}
+use Rattle.rules.specs.Checking.{line_of, is_indexed, present_of, present_fault, line_fault, present_after, names_after, check_from}
 use Rattle.rules.proofs.CheckSteps.{check_cons}
 use Rattle.rules.proofs.LineChecks.{form_is}
 use Rattle.answers.specs.Matching.{members, rule_matches}
@@ -72,7 +72,7 @@ shape_fine l r i ws e = go (rule_shape l r ws) refl
     go true q = shape_count l r ws q
     go false q = absurd (shape_six l r i ws q e)
 
-present_shape : (h : Heading) (ws : Words) → present_fault (present_of h) ws ≡ shape_fault (length h.columns) (length h.components) (eqb (present_of h).form 2) ws
+present_shape : (h : Heading) (ws : Words) → present_fault (present_of h) ws ≡ shape_fault (length h.columns) (length h.components) (is_indexed (present_of h).form) ws
 unfolding present_fault present_of
 present_shape h ws = rw (form_is h.index).0
 

@@ -9,6 +9,10 @@ use lib.ListN.{length, get_or, drop, length-drop, drop_of_length-le}
 use lib.Seq.{drop-cons, drop-drop}
 use lib.Dec.{eqb}
 use borrow.Author.Tests.{eqb-true, eqb-false}
+use Rattle.std.specs.Prelude.{Ok, Err}
+use Rattle.text.specs.declared.Spot.{Spot}
+use Rattle.text.specs.declared.faults.Fault.{Fault}
+use Rattle.text.specs.Told.{number_of}
 use Rattle.text.specs.Bytes.{Text, Words, any_of}
 use Rattle.text.specs.Words.{too_long}
 use Rattle.text.specs.Reading.{left, follow, Opens}
@@ -18,26 +22,23 @@ use Rattle.profile.specs.Profile.{Texts, Profile, profile_of, layout_count}
 use Rattle.rules.specs.declared.Column.{Column}
 use Rattle.rules.specs.Headings.{Heading}
 use Rattle.rules.specs.Faults.{Groups, right_words}
-use Rattle.rules.specs.Checking.{line_of, present_of, check_from}
+use Rattle.rules.specs.Checking.{line_of, check_from}
 use Rattle.answers.specs.Layouts.{per_layout}
 use Rattle.answers.specs.Matching.{members, rule_matches}
 use Rattle.bitsets.specs.Sets.{is_in}
 use Rattle.bitsets.proofs.Bits.{in_none}
-use Rattle.rules.specs.Held.{column_by, heading_by, SetSized}
-use Rattle.rules.proofs.HeldHeadings.{columns_length, components_length, column_at}
+use Rattle.rules.specs.Held.{heading_by}
 use Rattle.names.specs.Rows.{Question, asks}
 use Rattle.names.specs.Ready.{Ready}
 use Rattle.names.proofs.Rows.{asks_level}
-use Rattle.rules.specs.declared.Present.{Present}
-use Rattle.judging.specs.declared.RuleLine.{RuleLine}
-use Rattle.judging.specs.declared.RuleLine.TheVariants as line
-use Rattle.judging.specs.Lines.{RuleLineRead, LineRefused, RuleLineOf}
+use Rattle.judging.specs.Lines.{RuleLineRead, LineRefused}
+use Rattle.names.specs.declared.Names.{Names}
 use Rattle.reading.specs.declared.OpenSet.{OpenSet}
 use Rattle.reading.specs.declared.LeftWords.{LeftWords}
 use Rattle.reading.specs.declared.Sought.TheVariants as sought
 use Rattle.reading.specs.Owed.{Kept, owed}
 use Rattle.reading.specs.Left.{asked, Answers, LeftHeld}
-use Rattle.reading.specs.Seeking.{SetOpen, PassedOver, Seeks}
+use Rattle.reading.specs.Seeking.{Seekable, SetOpen, PassedOver, Seeks}
 use Rattle.reading.proofs.RuleLines.{line_short, line_faults_lem, line_count, owed_blank, owed_miss, owed_keep, owed_fire}
 
 -- the columns of a heading can be asked at a layout
@@ -70,56 +71,55 @@ asked_rule gs p k [] ws h = refl
 asked_rule gs p k (c ∷ cs) [] h = absurd (omega arith)
 asked_rule gs p k (c ∷ cs) (w ∷ ws) h = rw (asked_rule gs p k cs ws (omega arith)) refl
 
-module _ (d : Text) (t rows : List ℕ) (flags : List Bool) (count : ℕ) (o : OpenSet) (s : Text) where
+module _ (names : Names) (o : OpenSet) (s : Text) where
   abbrev H : Heading
   H = heading_by o.set
 
   -- the loop over the columns: the layouts that are left, and the words that are left, say the same as all of them
   pub record LeftGoing (from c : ℕ) (x : LeftWords) : Type 0 where
-    pub high : x.at ≤ length s
-    pub few : x.line ≤ x.at + 1
+    pub high : x.end.at ≤ length s
+    pub few : x.end.line ≤ x.end.at + 1
     pub some : (x.layouts ≡ 0 → ⊥) → o.wanted ≡ 0 → ⊥
-    pub behind : (x.layouts ≡ 0 → ⊥) → left s x.at ≡ drop c (left s from)
+    pub behind : (x.layouts ≡ 0 → ⊥) → left s x.end.at ≡ drop c (left s from)
     pub enough : (x.layouts ≡ 0 → ⊥) → c ≤ length (left s from)
-    pub tells : (q : Question) (n : ℕ) → Answers q n d t rows flags count → (k : ℕ) → Fits n k H.columns →
-        (is_in k o.wanted && asked q k H.columns (left s from)) ≡ (is_in k x.layouts && asked q k (drop c H.columns) (left s x.at))
+    pub tells : (q : Question) (n : ℕ) → Answers q n names.table → (k : ℕ) → Fits n k H.columns →
+        (is_in k o.wanted && asked q k H.columns (left s from)) ≡ (is_in k x.layouts && asked q k (drop c H.columns) (left s x.end.at))
 
-  pub left_start : (from l : ℕ) → from ≤ length s → l ≤ from + 1 → LeftGoing from 0 (record { layouts = o.wanted; at = from; line = l })
+  pub left_start : (from l : ℕ) → from ≤ length s → l ≤ from + 1 → LeftGoing from 0 (record { layouts = o.wanted; end = record { at = from; line = l } })
   left_start from l h f =
       record { high = h; few = f; some = λ z. z; behind = λ z. refl; enough = λ z. omega arith; tells = λ q n v k g. refl }
 
-  module _ (sized : SetSized o.set) (from c : ℕ) (x : LeftWords) (v : LeftGoing from c x) where
-    pub left_more : c < o.set.left → (x.layouts ≡ 0 → ⊥) → (r : LeftWords) → LeftHeld d t rows flags count (column_by (get_or o.set.columns c 0)) s x r →
-        LeftGoing from (c + 1) r
-    left_more g z r w =
+  module _ (from c : ℕ) (x : LeftWords) (v : LeftGoing from c x) where
+    left_one : c < length H.columns → (x.layouts ≡ 0 → ⊥) → (r : LeftWords) (k : Column) → LeftHeld names.table (get_or H.columns c k) s x r → LeftGoing from (c + 1) r
+    left_one g z r k w =
         record {
           high = w.high;
           few = w.few;
           some = λ y. v.some z;
           behind = λ y. w.rest y ∙ (ap (drop 1) (v.behind z) ∙ drop-drop 1 c (left s from));
           enough = λ y.
-              let e : length (left s x.at) ≡ length (left s from) - c = ap length (v.behind z) ∙ length-drop c (left s from) in
+              let e : length (left s x.end.at) ≡ length (left s from) - c = ap length (v.behind z) ∙ length-drop c (left s from) in
               omega (arith, w.some y, e);
-          tells = λ q n a k f.
-              v.tells q n a k f
-              ∙ (rw column (w.tells q n a k (λ e. f (any_behind c H.columns (rw column (any_head (column_by (get_or o.set.columns c 0)) (drop (c + 1) H.columns) e)))) (drop (c + 1) H.columns)));
+          tells = λ q n a i f.
+              v.tells q n a i f
+              ∙ (rw column (w.tells q n a i (λ e. f (any_behind c H.columns (rw column (any_head (get_or H.columns c k) (drop (c + 1) H.columns) e)))) (drop (c + 1) H.columns)));
         }
       where
-        column : drop c H.columns ≡ column_by (get_or o.set.columns c 0) ∷ drop (c + 1) H.columns
-        column =
-            let l : c < length H.columns = rw (columns_length o.set sized) g in
-            let e : drop c H.columns ≡ get_or H.columns c (column_by 0) ∷ drop (c + 1) H.columns = rw add-one (drop-cons H.columns c (column_by 0) l) in
-            rw (column_at o.set sized c g) at e
+        column : drop c H.columns ≡ get_or H.columns c k ∷ drop (c + 1) H.columns
+        column = rw add-one (drop-cons H.columns c k g)
 
-    left_miss : x.layouts ≡ 0 → (q : Question) (n : ℕ) → Answers q n d t rows flags count → (k : ℕ) → Fits n k H.columns →
+    pub left_more : (cs : List Column) → cs ≡ H.columns → c < length cs → (x.layouts ≡ 0 → ⊥) → (r : LeftWords) (k : Column) → LeftHeld names.table (get_or cs c k) s x r →
+        LeftGoing from (c + 1) r
+    left_more cs i l z r k y = left_one (rw i at l) z r k (rw i at y)
+
+    left_miss : x.layouts ≡ 0 → (q : Question) (n : ℕ) → Answers q n names.table → (k : ℕ) → Fits n k H.columns →
         (is_in k o.wanted && asked q k H.columns (left s from)) ≡ false
     left_miss e q n a k f = v.tells q n a k f ∙ rw (e, in_none k) refl
 
-    left_done : o.set.left ≤ c → (q : Question) (n : ℕ) → Answers q n d t rows flags count → (k : ℕ) → Fits n k H.columns →
+    left_done : length H.columns ≤ c → (q : Question) (n : ℕ) → Answers q n names.table → (k : ℕ) → Fits n k H.columns →
         is_in k x.layouts ≡ (is_in k o.wanted && asked q k H.columns (left s from))
     left_done g q n a k f =
-        let l : length H.columns ≤ c = rw (columns_length o.set sized) g in
-        sym (v.tells q n a k f ∙ rw (drop_of_length-le H.columns l, asked_done q k (left s x.at)) (and-true (is_in k x.layouts)))
+        sym (v.tells q n a k f ∙ rw (drop_of_length-le H.columns g, asked_done q k (left s x.end.at)) (and-true (is_in k x.layouts)))
 
   module _ (at n : ℕ) where
     -- the loop over the lines
@@ -127,17 +127,17 @@ module _ (d : Text) (t rows : List ℕ) (flags : List Bool) (count : ℕ) (o : O
       pub low : at ≤ i
       pub high : i ≤ length s
       pub few : m ≤ i + 1
-      pub over : (x : Texts) (gs : Groups) → Ready x gs d t rows flags count → SetOpen (layout_count (profile_of x)) o → PassedOver x gs o s at n i m
+      pub over : (x : Texts) (gs : Groups) → Ready x gs names → SetOpen (layout_count (profile_of x)) o → PassedOver x gs o s at n i m
 
     pub seek_start : at ≤ length s → n ≤ at + 1 → Seeking at n
     seek_start h f = record { low = omega arith; high = h; few = f; over = λ x gs r u. record { faults = λ ns. refl; owes = λ kept. refl } }
 
-    answers_of : (x : Texts) (gs : Groups) → Ready x gs d t rows flags count → SetOpen (layout_count (profile_of x)) o →
-        Answers (asks gs (profile_of x)) (layout_count (profile_of x)) d t rows flags count
+    answers_of : (x : Texts) (gs : Groups) → Ready x gs names → SetOpen (layout_count (profile_of x)) o →
+        Answers (asks gs (profile_of x)) (layout_count (profile_of x)) names.table
     answers_of x gs r u = record { held = r.held; level = asks_level gs (profile_of x); some = u.some }
 
     module _ (i m : ℕ) (v : Seeking i m) where
-      pub seek_end : length s ≤ i → Seeks d t rows flags count o s at n sought.End
+      pub seek_end : length s ≤ i → Seeks names o s at n (Ok sought.End)
       unfolding check_from
       seek_end h =
           record {
@@ -148,22 +148,19 @@ module _ (d : Text) (t rows : List ℕ) (flags : List Bool) (count : ℕ) (o : O
                 (λ ns. p.faults ns ∙ rw e refl, λ kept. p.owes kept ∙ rw e refl);
           }
 
-      pub seek_heading : (from l : ℕ) → i < length s → Opens s i m true from l → Seeks d t rows flags count o s at n (sought.Heading i m from l)
-      seek_heading from l h w = record { place = (v.low, h, v.few, w); means = v.over }
+      pub seek_heading : (w : Spot) → i < length s → Opens s i m true w.at w.line → Seeks names o s at n (Ok (sought.Heading (record { at = i; line = m }) w))
+      seek_heading from h w = record { place = (v.low, h, v.few, w); means = v.over }
 
-      pub seek_refused : (k : ℕ) → LineRefused s i m o.present k → Seeks d t rows flags count o s at n (sought.Refused k m)
-      seek_refused k w = record { place = w.some; means = λ x gs r u ns. rw ((v.over x gs r u).faults ns) (w.first ns) }
+      pub seek_refused : (f : Fault) → LineRefused s i m o.present (number_of f) → Seeks names o s at n (Err (record { fault = f; place = m }))
+      seek_refused f w = record { place = Prim.tt {0}; means = λ x gs r u ns. rw ((v.over x gs r u).faults ns) (w.first ns) }
 
       -- a line that is no heading, and is not refused
-      module _ (sized : SetSized o.set) (head : (o.wanted ≡ 0 → ⊥) → o.present ≡ present_of (heading_by o.set))
-          (from l next n' : ℕ) (w : RuleLineRead s i m o.present from l next n') (c : ℕ) (y : LeftWords) (g : LeftGoing from c y) where
-        count_is : (o.wanted ≡ 0 → ⊥) → (length (left s from) ≡ 0 → ⊥) → length (left s from) ≡ o.set.left + 1 + o.set.right
-        count_is z e =
-            let b = line_count o.present m (left s from) w.fault (heading_by o.set) (head z) e in
-            rw (columns_length o.set sized, components_length o.set sized) at b
+      module _ (able : Seekable o) (from l next n' : ℕ) (w : RuleLineRead s i m o.present from l next n') (c : ℕ) (y : LeftWords) (g : LeftGoing from c y) where
+        count_is : (o.wanted ≡ 0 → ⊥) → (length (left s from) ≡ 0 → ⊥) → length (left s from) ≡ length H.columns + 1 + length H.components
+        count_is z e = line_count o.present m (left s from) w.fault (heading_by o.set) (able.heading z) e
 
         enough_of : (o.wanted ≡ 0 → ⊥) → (length (left s from) ≡ 0 → ⊥) → length H.columns ≤ length (left s from)
-        enough_of z e = let a = columns_length o.set sized in omega (arith, count_is z e, a)
+        enough_of z e = omega (arith, count_is z e)
 
         pub seek_miss : y.layouts ≡ 0 → Seeking next n'
         seek_miss e =
@@ -179,7 +176,7 @@ module _ (d : Text) (t rows : List ℕ) (flags : List Bool) (count : ℕ) (o : O
                   };
             }
           where
-            passed : (x : Texts) (gs : Groups) → Ready x gs d t rows flags count → SetOpen (layout_count (profile_of x)) o → (kept : Kept) →
+            passed : (x : Texts) (gs : Groups) → Ready x gs names → SetOpen (layout_count (profile_of x)) o → (kept : Kept) →
                 (a : Bool) → eqb (length (left s from)) 0 ≡ a → (b : Bool) → eqb o.wanted 0 ≡ b →
                 owed gs (profile_of x) o kept (line_of m false (left s from) ∷ follow s next n') ≡ owed gs (profile_of x) o kept (follow s next n')
             passed x gs r u kept true z b f =
@@ -191,36 +188,36 @@ module _ (d : Text) (t rows : List ℕ) (flags : List Bool) (count : ℕ) (o : O
                 owed_miss o.present m (left s from) w.fault gs (profile_of x) o kept (follow s next n') (eqb-false (length (left s from)) 0 z) u.all
                 (λ k a b.
                 rw (← asked_rule gs (profile_of x) k H.columns (left s from) (enough_of (eqb-false o.wanted 0 f) (eqb-false (length (left s from)) 0 z)))
-                (left_miss sized from c y g e (asks gs (profile_of x)) (layout_count (profile_of x)) (answers_of x gs r u) k (λ j. u.among j k a b)))
+                (left_miss from c y g e (asks gs (profile_of x)) (layout_count (profile_of x)) (answers_of x gs r u) k (λ j. u.among j k a b)))
 
-        module _ (done : o.set.left ≤ c) (c-high : c ≤ o.set.left) (hit : y.layouts ≡ 0 → ⊥) where
+        module _ (done : length H.columns ≤ c) (c-high : c ≤ length H.columns) (hit : y.layouts ≡ 0 → ⊥) where
           wanted : o.wanted ≡ 0 → ⊥
           wanted = g.some hit
 
           nonblank : length (left s from) ≡ 0 → ⊥
-          nonblank e = absurd (omega (arith, g.enough hit, sized.some, e))
+          nonblank e = absurd (omega (arith, g.enough hit, able.columns, e))
 
-          is_left : c ≡ o.set.left
+          is_left : c ≡ length H.columns
           is_left = omega arith
 
-          behind_is : left s y.at ≡ drop o.set.left (left s from)
+          behind_is : left s y.end.at ≡ drop (length H.columns) (left s from)
           behind_is = g.behind hit ∙ ap (λ (j : ℕ). drop j (left s from)) is_left
 
-          matched : (x : Texts) (gs : Groups) → Ready x gs d t rows flags count → SetOpen (layout_count (profile_of x)) o → (k : ℕ) → o.first ≤ k → k < o.first + o.count →
+          matched : (x : Texts) (gs : Groups) → Ready x gs names → SetOpen (layout_count (profile_of x)) o → (k : ℕ) → o.first ≤ k → k < o.first + o.count →
               is_in k y.layouts ≡ (is_in k o.wanted && rule_matches (members gs) (profile_of x) k H.columns (left s from))
           matched x gs r u k a b =
               rw (← asked_rule gs (profile_of x) k H.columns (left s from) (enough_of wanted nonblank))
-              (left_done sized from c y g done (asks gs (profile_of x)) (layout_count (profile_of x)) (answers_of x gs r u) k (λ j. u.among j k a b))
+              (left_done from c y g done (asks gs (profile_of x)) (layout_count (profile_of x)) (answers_of x gs r u) k (λ j. u.among j k a b))
 
-          pub seek_found : Seeks d t rows flags count o s at n (sought.Rule y.at y.layouts next n')
+          pub seek_found : Seeks names o s at n (Ok (sought.Rule y.end.at y.layouts (record { at = next; line = n' })))
           unfolding right_words
           seek_found =
               record {
                 place = (
                   record {
                     high = g.high;
-                    count = ap length behind_is ∙ (length-drop o.set.left (left s from) ∙ omega (arith, count_is wanted nonblank));
-                    short = rw behind_is (any_drop too_long o.set.left (left s from) (line_short o.present m (left s from) w.fault));
+                    count = ap length behind_is ∙ (length-drop (length H.columns) (left s from) ∙ omega (arith, count_is wanted nonblank));
+                    short = rw behind_is (any_drop too_long (length H.columns) (left s from) (line_short o.present m (left s from) w.fault));
                   },
                   wanted,
                   omega (arith, v.low, w.on),
@@ -231,7 +228,7 @@ module _ (d : Text) (t rows : List ℕ) (flags : List Bool) (count : ℕ) (o : O
                     let p = v.over x gs r u in
                     record {
                       rule = record { number = m; text = left s from };
-                      words = rw (behind_is, drop-drop 1 o.set.left (left s from), columns_length o.set sized) refl;
+                      words = rw (behind_is, drop-drop 1 (length H.columns) (left s from)) refl;
                       faults = λ ns. p.faults ns ∙ rw w.read (line_faults_lem o.present m (left s from) w.fault ns (follow s next n'));
                       keeps = λ e kept q out. p.owes kept ∙ rw w.read
                           (owed_keep o.present m (left s from) w.fault gs (profile_of x) o kept (follow s next n') nonblank u.all y.layouts q (matched x gs r u) out e);
@@ -239,14 +236,3 @@ module _ (d : Text) (t rows : List ℕ) (flags : List Bool) (count : ℕ) (o : O
                           (owed_fire o.present m (left s from) w.fault gs (profile_of x) o kept (follow s next n') nonblank u.all y.layouts q (matched x gs r u) out e);
                     };
               }
-
--- a line by its kind
-module _ (s : Text) (at n : ℕ) (p : Present) (r : RuleLine) (v : RuleLineOf s at n p r) where
-  pub line_told : (from m next n' : ℕ) → r ≡ line.Read from m next n' → RuleLineRead s at n p from m next n'
-  line_told from m next n' e = rw e at v
-
-  pub heading_told : (from m : ℕ) → r ≡ line.Heading from m → Opens s at n true from m
-  heading_told from m e = rw e at v
-
-  pub refused_told : (k : ℕ) → r ≡ line.Refused k → LineRefused s at n p k
-  refused_told k e = rw e at v

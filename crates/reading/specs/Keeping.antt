@@ -6,11 +6,17 @@ use Rattle.profile.specs.Profile.{Profile}
 use Rattle.answers.specs.Firings.{Firing, rule_fires}
 use Rattle.bitsets.specs.Sets.{is_in}
 use Rattle.firing.specs.declared.Cursors.{Cursors}
-use Rattle.firing.specs.Writing.{run_buf, run_cur}
+use Rattle.firing.specs.Writing.{ShortWords, run_buf, run_cur}
+use Rattle.rules.specs.declared.SetHeading.{SetHeading}
 use Rattle.rules.specs.Held.{heading_by}
 use Rattle.reading.specs.declared.OpenSet.{OpenSet}
 use Rattle.reading.specs.Owed.{layouts_in}
-use Rattle.reading.specs.Seeking.{PlaceAt}
+
+-- a place behind the left words of a rule: what firing its right words asks
+pub record PlaceAt (h : SetHeading) (s : Text) (place : ℕ) : Type 0 where
+  pub high : place ≤ length s
+  pub count : length (left s place) ≡ 1 + length (heading_by h).components
+  pub short : ShortWords (left s place)
 
 -- room for the layouts 1 to 32, and for 0
 abbrev pub most_places : ℕ

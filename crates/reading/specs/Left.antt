@@ -5,6 +5,7 @@ use Rattle.text.specs.Reading.{left, ahead}
 use Rattle.rules.specs.declared.Column.{Column}
 use Rattle.answers.specs.Layouts.{per_layout}
 use Rattle.bitsets.specs.Sets.{is_in}
+use Rattle.names.specs.declared.table.Table.{Table}
 use Rattle.names.specs.Rows.{Question, Level}
 use Rattle.names.specs.Compiled.{Compiled}
 use Rattle.reading.specs.declared.LeftWords.{LeftWords}
@@ -16,8 +17,8 @@ asked q k (c ∷ cs) [] = false
 asked q k (c ∷ cs) (w ∷ ws) = q k c w && asked q k cs ws
 
 -- the names answer a question at the layouts 1 to n
-pub record Answers (q : Question) (n : ℕ) (d : Text) (t rows : List ℕ) (flags : List Bool) (count : ℕ) : Type 0 where
-  pub held : Compiled q n d t rows flags count
+pub record Answers (q : Question) (n : ℕ) (t : Table) : Type 0 where
+  pub held : Compiled q n t
   pub level : Level q
   pub some : 1 ≤ n
 
@@ -26,12 +27,12 @@ abbrev pub AskedAt : ℕ → ℕ → Column → Type 0
 AskedAt n k c = per_layout c ≡ true → (1 ≤ k) × (k ≤ n)
 
 -- the next word behind x, held against a column: the layouts that are left, and where the line goes on
-pub record LeftHeld (d : Text) (t rows : List ℕ) (flags : List Bool) (count : ℕ) (c : Column) (s : Text) (x r : LeftWords) : Type 0 where
-  pub tells : (q : Question) (n : ℕ) → Answers q n d t rows flags count → (k : ℕ) → AskedAt n k c → (cs : List Column) →
-      (is_in k x.layouts && asked q k (c ∷ cs) (left s x.at)) ≡ (is_in k r.layouts && asked q k cs (left s r.at))
-  pub rest : (r.layouts ≡ 0 → ⊥) → left s r.at ≡ drop 1 (left s x.at)
-  pub some : (r.layouts ≡ 0 → ⊥) → 0 < length (left s x.at)
-  pub low : x.at ≤ r.at
-  pub high : r.at ≤ length s
-  pub few : r.line ≤ r.at + 1
-  pub onto : ahead s x.at x.line ≡ ahead s r.at r.line
+pub record LeftHeld (t : Table) (c : Column) (s : Text) (x r : LeftWords) : Type 0 where
+  pub tells : (q : Question) (n : ℕ) → Answers q n t → (k : ℕ) → AskedAt n k c → (cs : List Column) →
+      (is_in k x.layouts && asked q k (c ∷ cs) (left s x.end.at)) ≡ (is_in k r.layouts && asked q k cs (left s r.end.at))
+  pub rest : (r.layouts ≡ 0 → ⊥) → left s r.end.at ≡ drop 1 (left s x.end.at)
+  pub some : (r.layouts ≡ 0 → ⊥) → 0 < length (left s x.end.at)
+  pub low : x.end.at ≤ r.end.at
+  pub high : r.end.at ≤ length s
+  pub few : r.end.line ≤ r.end.at + 1
+  pub onto : ahead s x.end.at x.end.line ≡ ahead s r.end.at r.end.line

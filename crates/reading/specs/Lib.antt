@@ -1,9 +1,10 @@
 pub mod Order
 pub mod Owed
 pub mod Left
-pub mod Seeking
 pub mod Keeping
+pub mod Seeking
 pub mod Opening
+pub mod Closing
 pub mod States
 pub mod Steps
 pub mod Heads

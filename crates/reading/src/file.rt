@@ -1,233 +1,138 @@
 // A file read to its end, or to its first refused line.
-ghost use Rattle.std.specs.Prelude.{◌≡◌, ◌≤◌, ◌<◌, length};
-ghost use Rattle.text.specs.Reading.{Within};
-ghost use Rattle.reading.specs.Owed.{wanting as wanting_of};
+ghost use Rattle.std.specs.Prelude.{◌≡◌, ◌≤◌, length};
+ghost use Rattle.output.specs.Store.{farthest};
+ghost use Rattle.rules.specs.Held.{heading_by};
+ghost use Rattle.firing.specs.Writing.{Low};
+ghost use Rattle.reading.specs.Owed.{wanting};
 ghost use Rattle.reading.specs.States.{Sound};
 ghost use Rattle.reading.specs.Steps.{Stepped};
-ghost use Rattle.output.specs.Store.{farthest};
-ghost use Rattle.firing.specs.Writing.{Low};
-ghost use Rattle.rules.specs.Held.{SetSized};
-ghost use Rattle.reading.specs.Files.{Started, NamesStart, FileReadOf};
+ghost use Rattle.reading.specs.Files.{Started, FileReadOf};
+ghost use Rattle.reading.specs.Closing.{Closed};
 
-use super::heading::read_heading;
 use super::keep::{fire_kept, keep_rule};
 use super::seek::seek_rule;
-use super::states::{close, end, go_on, stop};
-use super::{FileRead, OpenSet, Reading, Setting, Sought};
+use super::{OpenSet, Reading, Sought};
 use bitsets::without;
 use firing::Cursors;
-use names::Held;
-use rules::{Index, NO_HEADING, SetHeading};
-use text::reader::fence_of;
-use text::table::TABLE;
-
-// One step on: to the next rule that matches, which is kept or fired; over a heading, before which the kept rules of its set are fired; or to the end.
-fn read_on(
-    s: &[u8],
-    t: &[u8; 512],
-    z: Setting,
-    r: Reading,
-    text: &mut [u8],
-    table: &mut [usize; 1024],
-    rows: &mut [u64; 512],
-    flags: &mut [bool; 1024],
-    bounds: &[usize; 130],
-    scratch: &mut [u8],
-    buf: &mut [u8],
-) -> Reading
-    requires { Within s.now t.now z.fence 0 0 × (1 ≤ z.n) × (z.n ≤ 32)
-        × Sound z.n s.now text.old table.old rows.old flags.old bounds.now scratch.old buf.old r }
-    ensures { Stepped z.n s.now text.old text.new table.old table.new rows.old rows.new
-        flags.old flags.new bounds.now scratch.old scratch.new buf.old buf.new r result }
-{
-    let used = r.used;
-    let set = r.set;
-    let places = r.places;
-    let cursors = r.cursors;
-    let x = seek_rule(
-        s,
-        t,
-        z.fence,
-        r.at,
-        r.line,
-        set,
-        &text[0..used],
-        table,
-        rows,
-        flags,
-        r.count,
-    );
-    match x {
-        Sought::Rule {
-            place,
-            layouts,
-            next,
-            after,
-        } => {
-            let kept = keep_rule(places, layouts, place, set.first, set.count);
-            let wanted = without(set.wanted, layouts);
-            let o = wanting(set, wanted);
-            if set.every {
-                let q = fire_kept(
-                    s,
-                    t,
-                    z,
-                    o,
-                    kept,
-                    &text[0..used],
-                    bounds,
-                    scratch,
-                    buf,
-                    cursors,
-                );
-                return go_on(r, next, after, set, kept, q);
-            }
-            go_on(r, next, after, o, kept, cursors)
-        }
-        Sought::Heading {
-            at,
-            line,
-            from,
-            number,
-        } => {
-            let q = fire_kept(
-                s,
-                t,
-                z,
-                set,
-                places,
-                &text[0..used],
-                bounds,
-                scratch,
-                buf,
-                cursors,
-            );
-            read_heading(
-                s,
-                t,
-                z,
-                close(r, at, line, q),
-                from,
-                number,
-                text,
-                table,
-                rows,
-                flags,
-            )
-        }
-        Sought::Refused { number, line } => stop(r, number, line),
-        Sought::End => {
-            let q = fire_kept(
-                s,
-                t,
-                z,
-                set,
-                places,
-                &text[0..used],
-                bounds,
-                scratch,
-                buf,
-                cursors,
-            );
-            end(close(r, r.at, r.line, q))
-        }
-    }
-}
-
-// The set with other layouts that want a rule.
-fn wanting(o: OpenSet, wanted: u64) -> OpenSet
-    ensures { result ≡ wanting_of o wanted }
-{
-    let mut next = o;
-    next.wanted = wanted;
-    next
-}
+use names::Names;
+use rules::listing::Listing;
+use rules::{Column, Index, NO_HEADING, SetHeading};
+use text::Spot;
+use text::faults::Refusal;
+use text::source::Source;
 
 // Stands for the heading where there is no set.
 fn no_set() -> SetHeading
-    ensures { SetSized result }
+    ensures { 1 ≤ length (heading_by result).columns }
 {
     SetHeading {
-        good: false,
-        left: 1,
-        columns: [1; 5],
+        columns: Listing {
+            count: 1,
+            items: [Column::Model; 4],
+        },
         index: Index::Absent,
-        right: 1,
-        components: [0; 5],
+        components: Listing {
+            count: 0,
+            items: [0; 5],
+        },
     }
 }
 
-// Before the first line.
-fn at_start(held: Held, cursors: Cursors) -> Reading
-    ensures { Started held cursors result }
-{
-    let heading = no_set();
-    let set = OpenSet {
-        present: NO_HEADING,
-        set: heading,
-        first: 0,
-        count: 0,
-        every: false,
-        wanted: 0,
-    };
-    let places: [usize; 33] = [0; 33];
-    Reading {
-        at: 0,
-        line: 1,
-        used: held.used,
-        count: held.count,
-        groups: 0,
-        set,
-        places,
-        cursors,
-        fault: 0,
-        more: true,
+impl Reading {
+    // Before the first line.
+    fn new(cursors: Cursors) -> Reading
+        ensures { Started cursors result }
+    {
+        Reading {
+            at: Spot { at: 0, line: 1 },
+            set: OpenSet::closed(NO_HEADING, no_set()),
+            places: [0; 33],
+            cursors,
+        }
+    }
+
+    // The kept rules of the set fire, and the set is over.
+    fn close_set(&mut self, src: &Source, names: &Names, scratch: &mut [u8], buf: &mut [u8])
+        requires { Sound src.now.bytes.now names.now scratch.old buf.old self.old }
+        ensures { Closed src.now.bytes.now names.now scratch.old scratch.new buf.old buf.new self.old self.new }
+    {
+        let set = self.set;
+        self.cursors = fire_kept(
+            src,
+            &set,
+            &self.places,
+            &names.values(),
+            scratch,
+            buf,
+            self.cursors,
+        );
+        self.set = OpenSet::closed(set.present, set.set);
+    }
+
+    // One step on: to the next rule that matches, which is kept or fired; over a heading, before which the kept rules of its set are fired; or to the end, and then
+    // `false`.
+    fn step(
+        &mut self,
+        src: &Source,
+        names: &mut Names,
+        scratch: &mut [u8],
+        buf: &mut [u8],
+    ) -> Result<bool, Refusal>
+        requires { Sound src.now.bytes.now names.old scratch.old buf.old self.old }
+        ensures { Stepped src.now.bytes.now names.old names.new scratch.old scratch.new buf.old buf.new self.old self.new result }
+    {
+        let set = self.set;
+        match seek_rule(src, self.at, &set, names)? {
+            Sought::Rule {
+                place,
+                layouts,
+                next,
+            } => {
+                keep_rule(&mut self.places, &set, layouts, place);
+                let wanted = without(set.wanted, layouts);
+                let wanting = OpenSet { wanted, ..set };
+                self.at = next;
+                if set.every {
+                    self.cursors = fire_kept(
+                        src,
+                        &wanting,
+                        &self.places,
+                        &names.values(),
+                        scratch,
+                        buf,
+                        self.cursors,
+                    );
+                    return Ok(true);
+                }
+                self.set = wanting;
+                Ok(true)
+            }
+            Sought::Heading { at, words } => {
+                self.close_set(src, names, scratch, buf);
+                self.at = at;
+                self.read_heading(src, names, words)?;
+                Ok(true)
+            }
+            Sought::End => {
+                self.close_set(src, names, scratch, buf);
+                Ok(false)
+            }
+        }
     }
 }
 
-// A file read for a profile that is compiled into the names: its first refused line, or number 0 and all that fires written from the cursors on.
+// A file read for a profile that is compiled into the names: all that fires is written from the cursors on, or the file's first refusal.
 pub fn read_file(
-    s: &[u8],
-    n: usize,
-    held: Held,
-    text: &mut [u8],
-    table: &mut [usize; 1024],
-    rows: &mut [u64; 512],
-    flags: &mut [bool; 1024],
-    bounds: &[usize; 130],
+    src: &Source,
+    names: &mut Names,
     buf: &mut [u8],
     q: Cursors,
-) -> FileRead
-    requires { (1 ≤ n) × (n < 10) × NamesStart text.old table.old rows.old flags.old bounds.now held × (length buf.old ≤ farthest) × Low q.at }
-    ensures { FileReadOf n s.now held text.old table.old rows.old flags.old bounds.now
-        buf.old buf.new q result }
+) -> Result<Cursors, Refusal>
+    requires { (length buf.old ≤ farthest) × Low q.at }
+    ensures { FileReadOf src.now.bytes.now names.old buf.old buf.new q result }
 {
-    let t = TABLE;
-    let z = Setting {
-        fence: fence_of(s),
-        n,
-    };
-    let mut scratch: [u8; 8192] = [0; 8192];
-    let mut r = at_start(held, q);
-    while r.more {
-        r = read_on(
-            s,
-            &t,
-            z,
-            r,
-            text,
-            table,
-            rows,
-            flags,
-            bounds,
-            &mut scratch,
-            buf,
-        );
-    }
-    let cursors = r.cursors;
-    FileRead {
-        number: r.fault,
-        place: r.line,
-        cursors,
-    }
+    let mut scratch = [0; 8192];
+    let mut reading = Reading::new(q);
+    while reading.step(src, names, &mut scratch, buf)? {}
+    Ok(reading.cursors)
 }

@@ -5,6 +5,7 @@ use mathlib.Core.Path.{◌≡◌, refl, sym, ap, ◌∙◌}
 use mathlib.Core.List.{List, [], ◌∷◌, ◌++◌}
 use mathlib.Core.Bool.{Bool, true, false, cond}
 use lib.ListN.{take, drop, get_or, take-append-drop}
+use Rattle.std.specs.Prelude.{Option, Some, None, option_map}
 use Rattle.text.specs.Bytes.{Text, bytes, same}
 use Rattle.text.specs.Limits.{most_layouts}
 use Rattle.text.proofs.Lists.{same_eq}
@@ -26,44 +27,46 @@ component_test false false false false true k l h = rw (← h)
 component_test false false false false false k l h = let z : 5 ≡ k = h in absurd (omega arith)
 
 -- numbers of the items, whatever their index is
-unfoldable item_rank : Item → ℕ
-item_rank item.Model = 0
-item_rank item.Options = 1
-item_rank (item.Layout i) = 2
-item_rank (item.Variant i) = 3
-item_rank item.Unknown = 4
+unfoldable item_rank : Option Item → ℕ
+item_rank (Some item.Model) = 0
+item_rank (Some item.Options) = 1
+item_rank (Some (item.Layout i)) = 2
+item_rank (Some (item.Variant i)) = 3
+item_rank None = 4
 
-item_test : (a b c d : Bool) (i j : Index) (k : ℕ) → k < 4 →
-    item_rank (cond a item.Model (cond b item.Options (cond c (item.Layout i) (cond d (item.Variant j) item.Unknown)))) ≡ k →
+item_test : (a b c d : Bool) (i j : Option Index) (k : ℕ) → k < 4 →
+    item_rank (cond a (Some item.Model) (cond b (Some item.Options) (cond c (option_map item.Layout i) (cond d (option_map item.Variant j) None)))) ≡ k →
     get_or (a ∷ b ∷ c ∷ d ∷ []) k false ≡ true
 unfolding item_rank
 item_test true b c d i j k l h = rw (← h)
 item_test false true c d i j k l h = rw (← h)
-item_test false false true d i j k l h = rw (← h)
-item_test false false false true i j k l h = rw (← h)
+item_test false false true d (Some i) j k l h = rw (← h)
+item_test false false true d None j k l h = let z : 4 ≡ k = h in absurd (omega arith)
+item_test false false false true i (Some j) k l h = rw (← h)
+item_test false false false true i None k l h = let z : 4 ≡ k = h in absurd (omega arith)
 item_test false false false false i j k l h = let z : 4 ≡ k = h in absurd (omega arith)
 
 -- numbers of the index words
-unfoldable index_rank : Index → ℕ
-index_rank index.Absent = 4
-index_rank (index.Numbered k) = 4
-index_rank index.Single = 0
-index_rank index.First = 1
-index_rank index.Later = 2
-index_rank index.Any = 3
-index_rank index.Wrong = 4
+unfoldable index_rank : Option Index → ℕ
+index_rank None = 4
+index_rank (Some index.Absent) = 4
+index_rank (Some (index.Numbered k)) = 4
+index_rank (Some index.Single) = 0
+index_rank (Some index.First) = 1
+index_rank (Some index.Later) = 2
+index_rank (Some index.Any) = 3
 
 numbered_rank : (w : Text) (ks : List ℕ) → index_rank (numbered_in w ks) ≡ 4
 unfolding numbered_in index_rank
 numbered_rank w [] = refl
 numbered_rank w (k ∷ ks) = go (same w ((91 ∷ decimal k) ++ (93 ∷ []))) (numbered_rank w ks)
   where
-    go : (t : Bool) → index_rank (numbered_in w ks) ≡ 4 → index_rank (cond t (index.Numbered k) (numbered_in w ks)) ≡ 4
+    go : (t : Bool) → index_rank (numbered_in w ks) ≡ 4 → index_rank (cond t (Some (index.Numbered k)) (numbered_in w ks)) ≡ 4
     go true h = refl
     go false h = h
 
-index_test : (a b c d e : Bool) (r : Index) (k : ℕ) → k < 4 → index_rank r ≡ 4 →
-    index_rank (cond a index.Absent (cond b index.Single (cond c index.First (cond d index.Later (cond e index.Any r))))) ≡ k →
+index_test : (a b c d e : Bool) (r : Option Index) (k : ℕ) → k < 4 → index_rank r ≡ 4 →
+    index_rank (cond a (Some index.Absent) (cond b (Some index.Single) (cond c (Some index.First) (cond d (Some index.Later) (cond e (Some index.Any) r))))) ≡ k →
     get_or (b ∷ c ∷ d ∷ e ∷ []) k false ≡ true
 unfolding index_rank
 index_test true b c d e r k l n h = let z : 4 ≡ k = h in absurd (omega arith)
@@ -73,13 +76,18 @@ index_test false false false true e r k l n h = rw (← h)
 index_test false false false false true r k l n h = rw (← h)
 index_test false false false false false r k l n h = let z : 4 ≡ k = sym n ∙ h in absurd (omega arith)
 
-layout_here : (u : Text) → left_item (bytes "layout" ++ u) ≡ item.Layout (index_of u)
+layout_here : (u : Text) → left_item (bytes "layout" ++ u) ≡ option_map item.Layout (index_of u)
 unfolding left_item bytes same
 layout_here u = refl
 
-variant_here : (u : Text) → left_item (bytes "variant" ++ u) ≡ item.Variant (index_of u)
+variant_here : (u : Text) → left_item (bytes "variant" ++ u) ≡ option_map item.Variant (index_of u)
 unfolding left_item bytes same
 variant_here u = refl
+
+-- the index of an item that takes one
+mapped : (m : Index → Item) → ((i j : Index) → m i ≡ m j → i ≡ j) → (o : Option Index) (i : Index) → option_map m o ≡ Some (m i) → o ≡ Some i
+mapped m f None i h = cc
+mapped m f (Some j) i h = let e : m j ≡ m i = cc in ap Some (f j i e)
 
 module _ (t : Text) where
   component_at : (k : ℕ) → k < 5 → component_of t ≡ k →
@@ -105,44 +113,48 @@ module _ (t : Text) where
   component_word : (w : Text) (k : ℕ) → (component_of t ≡ k → same t w ≡ true) → component_of w ≡ k → Just (component_of t ≡ k) (t ≡ w)
   component_word w k f e = record { only = λ h. same_eq t w (f h); there = λ q. ap component_of q ∙ e }
 
-  item_word : (w : Text) (m : Item) → (item_rank (left_item t) ≡ item_rank m → same t w ≡ true) → left_item w ≡ m → Just (left_item t ≡ m) (t ≡ w)
+  item_word : (w : Text) (m : Option Item) → (item_rank (left_item t) ≡ item_rank m → same t w ≡ true) → left_item w ≡ m → Just (left_item t ≡ m) (t ≡ w)
   item_word w m f e = record { only = λ h. same_eq t w (f (ap item_rank h)); there = λ q. ap left_item q ∙ e }
 
-  index_word : (w : Text) (i : Index) → (index_rank (index_of t) ≡ index_rank i → same t w ≡ true) → index_of w ≡ i → Just (index_of t ≡ i) (t ≡ w)
+  index_word : (w : Text) (i : Option Index) → (index_rank (index_of t) ≡ index_rank i → same t w ≡ true) → index_of w ≡ i → Just (index_of t ≡ i) (t ≡ w)
   index_word w i f e = record { only = λ h. same_eq t w (f (ap index_rank h)); there = λ q. ap index_of q ∙ e }
 
-  layout_word : (i : Index) → Just (left_item t ≡ item.Layout i) (Before (bytes "layout") i t)
+  layout_word : ((i : Index) → Just (left_item t ≡ Some (item.Layout i)) (Before (bytes "layout") (Some i) t)) × (Before (bytes "layout") None t → left_item t ≡ None)
   unfolding item_rank
-  layout_word i = record { only = only; there = λ b. ap left_item b.whole ∙ (layout_here b.rest ∙ ap item.Layout b.after) }
+  layout_word = (
+    λ i. record { only = only i; there = λ b. ap left_item b.whole ∙ (layout_here b.rest ∙ ap (option_map item.Layout) b.after) },
+    λ b. ap left_item b.whole ∙ (layout_here b.rest ∙ ap (option_map item.Layout) b.after),
+  )
     where
-      only : left_item t ≡ item.Layout i → Before (bytes "layout") i t
-      only h =
+      only : (i : Index) → left_item t ≡ Some (item.Layout i) → Before (bytes "layout") (Some i) t
+      only i h =
           let e = same_eq (take 6 t) (bytes "layout") (item_at 2 (omega arith) (ap item_rank h)) in
           let q : t ≡ bytes "layout" ++ drop 6 t = sym (take-append-drop 6 t) ∙ ap (λ (u : Text). u ++ drop 6 t) e in
-          let z : item.Layout (index_of (drop 6 t)) ≡ item.Layout i = sym (layout_here (drop 6 t)) ∙ (ap left_item (sym q) ∙ h) in
-          record { rest = drop 6 t; whole = q; after = cc }
+          record { rest = drop 6 t; whole = q; after = mapped item.Layout (λ i j e. cc) (index_of (drop 6 t)) i (sym (layout_here (drop 6 t)) ∙ (ap left_item (sym q) ∙ h)) }
 
-  variant_word : (i : Index) → Just (left_item t ≡ item.Variant i) (Before (bytes "variant") i t)
+  variant_word : ((i : Index) → Just (left_item t ≡ Some (item.Variant i)) (Before (bytes "variant") (Some i) t)) × (Before (bytes "variant") None t → left_item t ≡ None)
   unfolding item_rank
-  variant_word i = record { only = only; there = λ b. ap left_item b.whole ∙ (variant_here b.rest ∙ ap item.Variant b.after) }
+  variant_word = (
+    λ i. record { only = only i; there = λ b. ap left_item b.whole ∙ (variant_here b.rest ∙ ap (option_map item.Variant) b.after) },
+    λ b. ap left_item b.whole ∙ (variant_here b.rest ∙ ap (option_map item.Variant) b.after),
+  )
     where
-      only : left_item t ≡ item.Variant i → Before (bytes "variant") i t
-      only h =
+      only : (i : Index) → left_item t ≡ Some (item.Variant i) → Before (bytes "variant") (Some i) t
+      only i h =
           let e = same_eq (take 7 t) (bytes "variant") (item_at 3 (omega arith) (ap item_rank h)) in
           let q : t ≡ bytes "variant" ++ drop 7 t = sym (take-append-drop 7 t) ∙ ap (λ (u : Text). u ++ drop 7 t) e in
-          let z : item.Variant (index_of (drop 7 t)) ≡ item.Variant i = sym (variant_here (drop 7 t)) ∙ (ap left_item (sym q) ∙ h) in
-          record { rest = drop 7 t; whole = q; after = cc }
+          record { rest = drop 7 t; whole = q; after = mapped item.Variant (λ i j e. cc) (index_of (drop 7 t)) i (sym (variant_here (drop 7 t)) ∙ (ap left_item (sym q) ∙ h)) }
 
 pub keywords_exact : AllExact keywords
 unfolding AllExact keywords Exactly left_item component_of index_of item_rank index_rank same bytes
 keywords_exact = (
-  λ t. item_word t (bytes "model") item.Model (item_at t 0 (omega arith)) refl,
+  λ t. item_word t (bytes "model") (Some item.Model) (item_at t 0 (omega arith)) refl,
   (
     layout_word,
     (
       variant_word,
       (
-        λ t. item_word t (bytes "option") item.Options (item_at t 1 (omega arith)) refl,
+        λ t. item_word t (bytes "option") (Some item.Options) (item_at t 1 (omega arith)) refl,
         (
           λ t. component_word t (bytes "keycodes") 0 (component_at t 0 (omega arith)) refl,
           (
@@ -154,13 +166,13 @@ keywords_exact = (
                 (
                   λ t. component_word t (bytes "geometry") 4 (component_at t 4 (omega arith)) refl,
                   (
-                    λ t. index_word t (bytes "[single]") index.Single (index_at t 0 (omega arith)) refl,
+                    λ t. index_word t (bytes "[single]") (Some index.Single) (index_at t 0 (omega arith)) refl,
                     (
-                      λ t. index_word t (bytes "[first]") index.First (index_at t 1 (omega arith)) refl,
+                      λ t. index_word t (bytes "[first]") (Some index.First) (index_at t 1 (omega arith)) refl,
                       (
-                        λ t. index_word t (bytes "[later]") index.Later (index_at t 2 (omega arith)) refl,
+                        λ t. index_word t (bytes "[later]") (Some index.Later) (index_at t 2 (omega arith)) refl,
                         (
-                          λ t. index_word t (bytes "[any]") index.Any (index_at t 3 (omega arith)) refl,
+                          λ t. index_word t (bytes "[any]") (Some index.Any) (index_at t 3 (omega arith)) refl,
                           tt,
                         ),
                       ),

@@ -1,98 +1,52 @@
 -- Kinds of words by their length and first byte.
-use Prim.Native.Nat.{ℕ, suc, ◌<◌, ◌≤◌}
+use Prim.Native.Nat.{ℕ}
 use native.Mathlib.Omega.{arith}
-use mathlib.Core.Path.{◌≡◌, refl, sym, ◌∙◌}
+use mathlib.Core.Path.{◌≡◌, refl}
 use mathlib.Core.List.{[], ◌∷◌}
 use mathlib.Core.Bool.{Bool, true, false, not, ◌||◌, ◌&&◌}
-use mathlib.Core.Logic.{◌⊎◌, inl, inr, ⊎_elim}
 use lib.ListN.{length, get_or}
-use lib.Dec.{eqb}
-use borrow.Author.Tests.{ne_eqb}
+use lib.Dec.{eqb, ltb}
+use borrow.Author.Tests.{ne_eqb, lt-ltb}
 use Rattle.text.specs.Bytes.{Text, same, first, rest, empty}
-use Rattle.rules.specs.Words.{is_equals, is_star, has_dollar, ordinary, is_group_name, left_word}
+use Rattle.rules.specs.Words.{is_equals, is_star, has_dollar, ordinary, is_group_name}
 
-pub first_none : (w : Text) → length w ≡ 0 → 0 ≡ first w
-unfolding first
-first_none [] h = refl
-first_none (b ∷ w) h = absurd (omega arith)
+-- a word is one byte, and which
+one_byte : (w : Text) (b : ℕ) → same w (b ∷ []) ≡ (eqb (length w) 1 && eqb (get_or w 0 0) b)
+unfolding same
+one_byte [] b = refl
+one_byte (x ∷ []) b = go (eqb x b)
+  where
+    go : (t : Bool) → (t && true) ≡ t
+    go true = refl
+    go false = refl
+one_byte (x ∷ y ∷ w) b = rw (ne_eqb (length (x ∷ y ∷ w)) 1 (λ e. omega arith)) (go (eqb x b))
+  where
+    go : (t : Bool) → (t && false) ≡ false
+    go true = refl
+    go false = refl
 
-pub first_at : (w : Text) → get_or w 0 0 ≡ first w
+pub equals_reads : (w : Text) → is_equals w ≡ (eqb (length w) 1 && eqb (get_or w 0 0) 61)
+unfolding is_equals
+equals_reads w = one_byte w 61
+
+pub star_reads : (w : Text) → is_star w ≡ (eqb (length w) 1 && eqb (get_or w 0 0) 42)
+unfolding is_star
+star_reads w = one_byte w 42
+
+first_at : (w : Text) → first w ≡ get_or w 0 0
 unfolding first
 first_at [] = refl
 first_at (b ∷ w) = refl
 
-and_yes : (a : Bool) → a ≡ a && true
-and_yes true = refl
-and_yes false = refl
+pub ordinary_reads : (w : Text) →
+    ordinary w ≡ not ((eqb (length w) 1 && eqb (get_or w 0 0) 61)
+    || (ltb 0 (length w) && (eqb (get_or w 0 0) 33 || (eqb (get_or w 0 0) 36 || eqb (get_or w 0 0) 42))))
+unfolding ordinary has_dollar
+ordinary_reads [] = rw (equals_reads [], first_at []) refl
+ordinary_reads (b ∷ w) = rw (equals_reads (b ∷ w), first_at (b ∷ w), lt-ltb 0 (length (b ∷ w)) (omega arith)) refl
 
-pub only_one : (w : Text) (b : ℕ) → length w ≡ 1 → eqb (get_or w 0 0) b ≡ same w (b ∷ [])
-unfolding same
-only_one [] b h = absurd (omega arith)
-only_one (x ∷ []) b h = and_yes (eqb x b)
-only_one (x ∷ y ∷ w) b h = absurd (omega arith)
-
--- `=` and the words that begin with `=`
-
-equals_not : (w : Text) → (first w ≡ 61 → ⊥) → is_equals w ≡ false
-unfolding is_equals same first
-equals_not [] n = refl
-equals_not (b ∷ w) n = rw (ne_eqb b 61 n)
-
-equals_length : (w : Text) → first w ≡ 61 → is_equals w ≡ eqb (length w) 1
-unfolding is_equals same first
-equals_length [] e = refl
-equals_length (b ∷ []) e = rw e
-equals_length (b ∷ c ∷ w) e = rw e (sym (ne_eqb (suc (suc (length w))) 1 (λ q. omega arith)))
-
-never : (x y : Bool) → y ≡ true → false ≡ not (x || y)
-never true y e = refl
-never false y e = rw e
-
-module _ (w : Text) (b : ℕ) (a : b ≡ first w) where
-  pub ordinary_never : (b ≡ 33) ⊎ ((b ≡ 36) ⊎ (b ≡ 42)) → false ≡ ordinary w
-  unfolding ordinary has_dollar
-  ordinary_never h =
-      never (is_equals w) _ (rw (← a) (⊎_elim (λ e. rw e refl) (λ t. ⊎_elim (λ e. rw e refl) (λ e. rw e refl) t) h))
-
-  pub ordinary_equals : b ≡ 61 → not (eqb (length w) 1) ≡ ordinary w
-  unfolding ordinary has_dollar
-  ordinary_equals e = rw (equals_length w (sym a ∙ e), ← a, e) (go (eqb (length w) 1))
-    where
-      go : (t : Bool) → not t ≡ not (t || false)
-      go true = refl
-      go false = refl
-
-  pub ordinary_else : ((b ≡ 33) ⊎ ((b ≡ 36) ⊎ (b ≡ 42)) → ⊥) → (b ≡ 61 → ⊥) → true ≡ ordinary w
-  unfolding ordinary has_dollar
-  ordinary_else n m =
-      rw (equals_not w (λ e. m (a ∙ e)), ← a, ne_eqb b 33 (λ e. n (inl e)), ne_eqb b 36 (λ e. n (inr (inl e))), ne_eqb b 42 (λ e. n (inr (inr e))))
-
-pub group_short : (w : Text) → length w < 2 → false ≡ is_group_name w
+pub group_reads : (w : Text) → is_group_name w ≡ (eqb (get_or w 0 0) 36 && ltb 1 (length w))
 unfolding is_group_name has_dollar first rest empty
-group_short [] h = refl
-group_short (b ∷ []) h = go (eqb b 36)
-  where
-    go : (t : Bool) → false ≡ t && false
-    go true = refl
-    go false = refl
-group_short (b ∷ c ∷ w) h = absurd (omega arith)
-
-pub group_long : (w : Text) → 2 ≤ length w → eqb (get_or w 0 0) 36 ≡ is_group_name w
-unfolding is_group_name has_dollar first rest empty
-group_long [] h = absurd (omega arith)
-group_long (b ∷ []) h = absurd (omega arith)
-group_long (b ∷ c ∷ w) h = and_yes (eqb b 36)
-
-module _ (w : Text) (o : Bool) (a : o ≡ ordinary w) where
-  pub left_ordinary : o ≡ true → true ≡ left_word w
-  unfolding left_word
-  left_ordinary e = rw (← a, e)
-
-  module _ (e : o ≡ false) (s : Bool) (b : s ≡ is_star w) where
-    pub left_star : s ≡ true → true ≡ left_word w
-    unfolding left_word
-    left_star f = rw (← a, e, ← b, f)
-
-    pub left_group : s ≡ false → (g : Bool) → g ≡ is_group_name w → g ≡ left_word w
-    unfolding left_word
-    left_group f g k = rw (← a, e, ← b, f) k
+group_reads [] = refl
+group_reads (b ∷ []) = refl
+group_reads (b ∷ c ∷ w) = rw (lt-ltb 1 (length (b ∷ c ∷ w)) (omega arith)) refl

@@ -12,12 +12,13 @@ use Rattle.text.specs.Bytes.{Text, Words, same, any_of}
 use Rattle.text.specs.Refusals.{refused_if, refused_as, is_number}
 use Rattle.text.specs.Lines.{Line, lines}
 use Rattle.text.proofs.Lists.{no}
+use Rattle.rules.specs.declared.Form.TheVariants as form
 use Rattle.rules.specs.declared.Present.{Present}
 use Rattle.rules.specs.declared.Index.{Index}
 use Rattle.rules.specs.Headings.{Heading, has_word}
 use Rattle.rules.specs.Entries.{Entry, ignored, wrong, group, set, rule, entry_of}
 use Rattle.rules.specs.Faults.{Groups, defined, rule_fault, line_faults}
-use Rattle.rules.specs.Checking.{no_heading, form_of, present_of, present_fault, line_fault, present_after, names_after, check_from}
+use Rattle.rules.specs.Checking.{no_heading, is_absent, is_indexed, form_of, present_of, present_fault, line_fault, present_after, names_after, check_from}
 use Rattle.rules.proofs.Numbers.{good_entry, entry_good}
 use Rattle.rules.proofs.LineByLine.{rule_faults, faults_from, next_faults, faults_line, faults_none, faults_start}
 
@@ -28,16 +29,16 @@ present_by (some h) = present_of h
 abbrev names_in : Groups → List Text
 names_in gs = map (λ g. g.name) gs
 
-pub form_is : (i : Index) → (eqb (form_of i) 0 ≡ false) × (eqb (form_of i) 2 ≡ has_word i)
-unfolding form_of
+pub form_is : (i : Index) → (is_absent (form_of i) ≡ false) × (is_indexed (form_of i) ≡ has_word i)
+unfolding form_of is_absent is_indexed
 form_is i = go (has_word i)
   where
-    go : (t : Bool) → (eqb (cond t 2 1) 0 ≡ false) × (eqb (cond t 2 1) 2 ≡ t)
+    go : (t : Bool) → (is_absent (cond t form.Indexed form.Plain) ≡ false) × (is_indexed (cond t form.Indexed form.Plain) ≡ t)
     go true = (refl, refl)
     go false = (refl, refl)
 
 rule_by : (h : Option Heading) (n : ℕ) (ws : Words) → rule_faults h n ws ≡ refused_as (present_fault (present_by h) ws) n
-unfolding rule_faults present_fault present_by present_of rule_fault refused_as refused_if
+unfolding rule_faults present_fault present_by present_of rule_fault refused_as refused_if is_absent
 rule_by none n ws = refl
 rule_by (some h) n ws = rw ((form_is h.index).0, (form_is h.index).1)
 

@@ -1,11 +1,12 @@
 -- What a split line is: one law for each way.
 use Prim.Native.Nat.{ℕ, ◌+◌, ◌-◌, ◌≤◌, ◌<◌}
 use native.Mathlib.Omega.{arith}
-use mathlib.Core.Path.{◌≡◌, refl, sym, ◌∙◌}
+use mathlib.Core.Path.{◌≡◌, refl, sym, ap, ◌∙◌}
 use mathlib.Core.List.{[], ◌∷◌, map}
-use mathlib.Core.Bool.{Bool, true, false, not, ◌&&◌, cond}
+use mathlib.Core.Bool.{Bool, true, false, not, ◌&&◌, cond, and-false}
 use lib.ListN.{length, get_or, drop}
 use lib.Dec.{eqb}
+use Rattle.std.specs.Prelude.{Some, None}
 use borrow.Author.Tests.{eq-eqb, ne_eqb}
 use Rattle.text.specs.Bytes.{Words, bytes, same, empty, any_of}
 use Rattle.text.specs.Words.{words_fault}
@@ -53,25 +54,38 @@ unfolding set_entry
 set_good ws h g = rw (h, g)
 
 module _ (ws : Words) (t : Tally) (v : Tallied ws t) where
-  pub set_nothing : t.first ≡ 0 → set_entry ws ≡ wrong 6
-  set_nothing h = set_shapeless ws (shape_by ws ∙ rw (eq-eqb _ _ (sym v.first ∙ h)))
+  pub set_none : t.equals ≡ None → set_entry ws ≡ wrong 6
+  set_none h =
+      let e : length ws - (length (before ws) + 1) ≡ 0 = omega (arith, ap length (v.none h)) in
+      set_shapeless ws (shape_by ws ∙ rw (eq-eqb _ _ e) (and-false (not (eqb (length (before ws)) 0))))
 
-  pub set_ends : (t.first ≡ 0 → ⊥) → t.count ≤ t.first + 1 → set_entry ws ≡ wrong 6
-  set_ends n h =
-      let e : length ws - (length (before ws) + 1) ≡ 0 = omega (arith, v.first, v.count) in
-      set_shapeless ws (shape_by ws ∙ rw (ne_eqb (length (before ws)) 0 (λ z. n (v.first ∙ z)), eq-eqb _ _ e))
+  module _ (n : ℕ) (f : t.equals ≡ Some n) where
+    pub first_count : n ≤ t.count
+    first_count = omega (arith, v.first n f, v.count, before_low ws)
 
-  module _ (n : t.first ≡ 0 → ⊥) (l : t.first + 1 < t.count) where
-    shape_again : (b : Bool) → t.again ≡ b → set_shape ws ≡ not b
-    shape_again b h =
-        shape_by ws ∙
-        rw (ne_eqb (length (before ws)) 0 (λ z. n (v.first ∙ z)), ne_eqb (length ws - (length (before ws) + 1)) 0 (λ z. omega (arith, v.first, v.count, z)), sym v.again ∙ h)
+    pub set_nothing : n ≡ 0 → set_entry ws ≡ wrong 6
+    set_nothing h = set_shapeless ws (shape_by ws ∙ rw (eq-eqb _ _ (sym (v.first n f) ∙ h)))
 
-    pub set_again : t.again ≡ true → set_entry ws ≡ wrong 6
-    set_again h = set_shapeless ws (shape_again true h)
+    module _ (z : n ≡ 0 → ⊥) where
+      some_before : eqb (length (before ws)) 0 ≡ false
+      some_before = ne_eqb (length (before ws)) 0 (λ q. z (v.first n f ∙ q))
 
-    pub set_shaped : t.again ≡ false → set_shape ws ≡ true
-    set_shaped h = shape_again false h
+      pub set_ends : t.count ≤ n + 1 → set_entry ws ≡ wrong 6
+      set_ends h =
+          let e : length ws - (length (before ws) + 1) ≡ 0 = omega (arith, v.first n f, v.count) in
+          set_shapeless ws (shape_by ws ∙ rw (some_before, eq-eqb _ _ e))
+
+      module _ (l : n + 1 < t.count) where
+        shape_again : (b : Bool) → t.again ≡ b → set_shape ws ≡ not b
+        shape_again b h =
+            shape_by ws
+            ∙ rw (some_before, ne_eqb (length ws - (length (before ws) + 1)) 0 (λ z. omega (arith, v.first n f, v.count, z)), sym v.again ∙ h)
+
+        pub set_again : t.again ≡ true → set_entry ws ≡ wrong 6
+        set_again h = set_shapeless ws (shape_again true h)
+
+        pub set_shaped : t.again ≡ false → set_shape ws ≡ true
+        set_shaped h = shape_again false h
 
 -- headings
 
@@ -87,9 +101,6 @@ heading_words [] h = absurd (omega arith)
 heading_words (w ∷ ws) h = refl
 
 module _ (ws : Words) (h : 0 < length ws) where
-  pub heading_group : has_dollar (get_or ws 0 []) ≡ true → heading_entry ws ≡ group_entry (get_or ws 0 []) (drop 1 ws)
-  heading_group d = heading_words ws h ∙ rw d
-
   pub heading_include : has_dollar (get_or ws 0 []) ≡ false → same (get_or ws 0 []) (bytes "include") ≡ true → heading_entry ws ≡ wrong 9
   heading_include d i = heading_words ws h ∙ rw (d, i)
 
@@ -126,7 +137,3 @@ module _ (n : ℕ) (h : Bool) (ws : Words) where
 
     pub line_rule : h ≡ false → (length ws ≡ 0 → ⊥) → entry_of (line_of n h ws) ≡ rule ws
     line_rule k l = line_fine f e z ∙ (rw k (some_words ws l))
-
--- the tally of a line counts no more words before the first `=` than there are
-pub first_count : (ws : Words) (t : Tally) → Tallied ws t → t.first ≤ t.count
-first_count ws t v = omega (arith, v.first, v.count, before_low ws)

@@ -3,12 +3,14 @@ use Prim.Native.Nat.{ℕ, zero, suc, ◌+◌, ◌-◌, ◌≤◌, ◌<◌}
 use native.Mathlib.Omega.{arith}
 use mathlib.Core.Path.{◌≡◌, refl, sym, ◌∙◌}
 use mathlib.Core.List.{[], ◌∷◌}
-use mathlib.Core.Bool.{Bool, true, false, not, ◌||◌, ◌&&◌, cond}
-use mathlib.Core.Logic.{◌⊎◌, inl, inr, ⊎_elim}
-use lib.ListN.{length, take, drop, get_or, length-drop, drop_of_length-le}
+use mathlib.Core.Bool.{Bool, true, false, not, ◌||◌, ◌&&◌, cond, and-true}
+use lib.ListN.{length, take, drop, get_or, length-drop, drop_of_length-le, get_or-eq_default}
 use lib.Seq.{take_all, drop-drop}
-use lib.Dec.{eqb, leb}
-use borrow.Author.Tests.{eqb-true, ne_eqb, le-leb, lt-leb}
+use lib.Dec.{eqb, ltb, leb}
+use borrow.Author.Tests.{eqb-true, ne_eqb, ltb-false, lt-ltb}
+use Rattle.std.specs.Prelude.{nat_eq}
+use Rattle.std.proofs.lemmas.Bool.Decides.{nat_tests}
+use Rattle.std.specs.Cmp.Lexicographic.{pointwise}
 use Rattle.text.specs.Bytes.{Text}
 use Rattle.text.proofs.Lists.{and_both, any_nil, any_cons}
 use Rattle.text.proofs.Comparing.{drop_at}
@@ -23,103 +25,80 @@ use Rattle.rules.specs.Percent
 pub tail_whole : (w : Text) (k : ℕ) → k ≤ length w → take (length w - k) (drop k w) ≡ drop k w
 tail_whole w k h = take_all (length w - k) (drop k w) (omega (arith, length-drop k w))
 
--- the index after an `l` or `v`
+-- what the pattern `[b, rest @ ..]` calls `rest`
+pub rest_is : (t : Text) → take (length t - 1) (drop 1 t) ≡ drop 1 t
+rest_is t = take_all (length t - 1) (drop 1 t) (omega (arith, length-drop 1 t))
 
-module _ (t u : Text) (e : t ≡ u) (x : ℕ) (a : x ≡ get_or t 0 0) where
-  pub which_alone : (x ≡ 91 → ⊥) → which.Alone ≡ Percent.which_of u
-  unfolding Percent.which_of
-  which_alone n = rw (← e, ← a, ne_eqb x 91 n)
+-- a byte that a text has at an index
+abbrev has : Text → ℕ → ℕ → Bool
+has t i b = ltb i (length t) && eqb (get_or t i 0) b
 
-  module _ (k : x ≡ 91) (y : ℕ) (b : y ≡ get_or t 1 0) where
-    pub which_low : (y ≡ 37 → ⊥) → y < 49 → which.Wrong ≡ Percent.which_of u
-    unfolding Percent.which_of
-    which_low n h = rw (← e, ← a, k, ← b, lt-leb 49 y h, ne_eqb y 37 n)
+has_byte : (t : Text) (i b : ℕ) → 0 < b → has t i b ≡ eqb (get_or t i 0) b
+has_byte t i b h = go (ltb i (length t)) refl
+  where
+    go : (l : Bool) → ltb i (length t) ≡ l → (l && eqb (get_or t i 0) b) ≡ eqb (get_or t i 0) b
+    go true e = refl
+    go false e = rw (get_or-eq_default t 0 (ltb-false _ _ e)) (sym (ne_eqb 0 b (λ z. omega arith)))
 
-    pub which_high : (y ≡ 37 → ⊥) → 53 ≤ y → which.Wrong ≡ Percent.which_of u
-    unfolding Percent.which_of
-    which_high n h = rw (← e, ← a, k, ← b, le-leb 49 y (omega arith), lt-leb y 52 h, ne_eqb y 37 n)
+pub which_reads : (t : Text) → Percent.which_of t ≡
+    cond (not (has t 0 91)) which.Alone
+    (cond (leb 49 (get_or t 1 0) && (leb (get_or t 1 0) 52 && has t 2 93)) (which.Numbered (get_or t 1 0 - 48))
+    (cond (has t 1 37 && (has t 2 105 && has t 3 93)) which.Matched
+    which.Wrong))
+unfolding Percent.which_of
+which_reads t = rw (has_byte t 0 91 (omega arith), has_byte t 2 93 (omega arith), has_byte t 1 37 (omega arith), has_byte t 2 105 (omega arith), has_byte t 3 93 (omega arith)) refl
 
-    module _ (z : ℕ) (c : z ≡ get_or t 2 0) where
-      pub which_numbered : 49 ≤ y → y < 53 → z ≡ 93 → (n : ℕ) → n ≡ y - 48 → which.Numbered n ≡ Percent.which_of u
-      unfolding Percent.which_of
-      which_numbered h l f n g = rw (← e, ← a, k, ← b, ← c, f, le-leb 49 y h, le-leb y 52 (omega arith), g)
+swap : (a b : ℕ) → eqb a b ≡ eqb b a
+swap a b = grind (arith, nat_tests)
 
-      pub which_unnumbered : 49 ≤ y → y < 53 → (z ≡ 93 → ⊥) → which.Wrong ≡ Percent.which_of u
-      unfolding Percent.which_of
-      which_unnumbered h l f =
-          rw (← e, ← a, k, ← b, ← c, ne_eqb z 93 f, le-leb 49 y h, le-leb y 52 (omega arith), ne_eqb y 37 (λ q. omega arith))
+pub matched_reads : (t : Text) → pointwise nat_eq (91 ∷ 37 ∷ 105 ∷ 93 ∷ []) (take 4 t) ≡ (has t 0 91 && (has t 1 37 && (has t 2 105 && has t 3 93)))
+matched_reads [] = refl
+matched_reads (a ∷ []) = rw (swap 91 a) refl
+matched_reads (a ∷ b ∷ []) = rw (swap 91 a, swap 37 b) refl
+matched_reads (a ∷ b ∷ c ∷ []) = rw (swap 91 a, swap 37 b, swap 105 c) refl
+matched_reads (a ∷ b ∷ c ∷ d ∷ t) =
+    rw (
+      swap 91 a,
+      swap 37 b,
+      swap 105 c,
+      swap 93 d,
+      lt-ltb 0 (length (a ∷ b ∷ c ∷ d ∷ t)) (omega arith),
+      lt-ltb 1 (length (a ∷ b ∷ c ∷ d ∷ t)) (omega arith),
+      lt-ltb 2 (length (a ∷ b ∷ c ∷ d ∷ t)) (omega arith),
+      lt-ltb 3 (length (a ∷ b ∷ c ∷ d ∷ t)) (omega arith),
+      and-true (eqb d 93),
+    )
+    refl
 
-      module _ (l : y ≡ 37) where
-        pub which_strange : (z ≡ 105 → ⊥) → which.Wrong ≡ Percent.which_of u
-        unfolding Percent.which_of
-        which_strange n = rw (← e, ← a, k, ← b, l, ← c, ne_eqb z 105 n)
+pub variable_reads : (t : Text) → Percent.variable_of t ≡
+    cond (has t 0 109) variable.Model
+    (cond (has t 0 108) (variable.Layout (Percent.which_of (drop 1 t)))
+    (cond (has t 0 118) (variable.Variant (Percent.which_of (drop 1 t)))
+    variable.Unknown))
+unfolding Percent.variable_of
+variable_reads t = rw (has_byte t 0 109 (omega arith), has_byte t 0 108 (omega arith), has_byte t 0 118 (omega arith)) refl
 
-        module _ (m : z ≡ 105) (v : ℕ) (d : v ≡ get_or t 3 0) where
-          pub which_open : (v ≡ 93 → ⊥) → which.Wrong ≡ Percent.which_of u
-          unfolding Percent.which_of
-          which_open n = rw (← e, ← a, k, ← b, l, ← c, m, ← d, ne_eqb v 93 n)
+pub parens_reads : (t : Text) → Percent.in_parens t ≡
+    cond (has t (Percent.variable_length (Percent.variable_of t)) 41) (Parens (Percent.variable_of t)) Unclosed
+unfolding Percent.in_parens
+parens_reads t = rw (has_byte t (Percent.variable_length (Percent.variable_of t)) 41 (omega arith)) refl
 
-          pub which_matched : v ≡ 93 → which.Matched ≡ Percent.which_of u
-          unfolding Percent.which_of
-          which_matched q = rw (← e, ← a, k, ← b, l, ← c, m, ← d, q)
-
--- the variable, and the item
-
-module _ (t u : Text) (e : t ≡ u) (b : ℕ) (a : b ≡ get_or t 0 0) where
-  pub variable_model : b ≡ 109 → variable.Model ≡ Percent.variable_of u
-  unfolding Percent.variable_of
-  variable_model k = rw (← e, ← a, k)
-
-  pub variable_layout : b ≡ 108 → (x : Which) → x ≡ Percent.which_of (drop 1 t) → variable.Layout x ≡ Percent.variable_of u
-  unfolding Percent.variable_of
-  variable_layout k x q = rw (← e, ← a, k, q)
-
-  pub variable_variant : b ≡ 118 → (x : Which) → x ≡ Percent.which_of (drop 1 t) → variable.Variant x ≡ Percent.variable_of u
-  unfolding Percent.variable_of
-  variable_variant k x q = rw (← e, ← a, k, q)
-
-  pub variable_unknown : (b ≡ 109 → ⊥) → (b ≡ 108 → ⊥) → (b ≡ 118 → ⊥) → variable.Unknown ≡ Percent.variable_of u
-  unfolding Percent.variable_of
-  variable_unknown m l v = rw (← e, ← a, ne_eqb b 109 m, ne_eqb b 108 l, ne_eqb b 118 v)
-
-  pub piece_number : b ≡ 105 → Number ≡ Percent.piece_after u
-  unfolding Percent.piece_after
-  piece_number k = rw (← e, ← a, k)
-
-  pub piece_prefixed : (b ≡ 43) ⊎ ((b ≡ 45) ⊎ ((b ≡ 95) ⊎ (b ≡ 124))) → (v : Variable) → v ≡ Percent.variable_of (drop 1 t) → Prefixed b v ≡ Percent.piece_after u
-  unfolding Percent.piece_after Percent.is_prefix
-  piece_prefixed h v q =
-      rw (← e, ← a, q)
-      (⊎_elim (λ k. rw k) (λ h. ⊎_elim (λ k. rw k) (λ h. ⊎_elim (λ k. rw k) (λ k. rw k) h) h) h)
-
-  pub piece_parens : b ≡ 40 → (p : Piece) → p ≡ Percent.in_parens (drop 1 t) → p ≡ Percent.piece_after u
-  unfolding Percent.piece_after Percent.is_prefix
-  piece_parens k p q = rw (← e, ← a, k) q
-
-  pub piece_bare : (b ≡ 105 → ⊥) → ((b ≡ 43) ⊎ ((b ≡ 45) ⊎ ((b ≡ 95) ⊎ (b ≡ 124))) → ⊥) → (b ≡ 40 → ⊥) →
-      (v : Variable) → v ≡ Percent.variable_of t → Bare v ≡ Percent.piece_after u
-  unfolding Percent.piece_after Percent.is_prefix
-  piece_bare i n o v q =
-      rw (
-        ← e,
-        ← a,
-        ne_eqb b 105 i,
-        ne_eqb b 43 (λ k. n (inl k)),
-        ne_eqb b 124 (λ k. n (inr (inr (inr k)))),
-        ne_eqb b 45 (λ k. n (inr (inl k))),
-        ne_eqb b 95 (λ k. n (inr (inr (inl k)))),
-        ne_eqb b 40 o,
-        q,
-      )
-
-module _ (t u : Text) (e : t ≡ u) (v : Variable) (q : v ≡ Percent.variable_of t) (k : ℕ) (l : k ≡ Percent.variable_length v) (b : ℕ) (a : b ≡ get_or t k 0) where
-  pub parens_open : (b ≡ 41 → ⊥) → Unclosed ≡ Percent.in_parens u
-  unfolding Percent.in_parens
-  parens_open n = rw (← e, ← q, ← l, ← a, ne_eqb b 41 n)
-
-  pub parens_closed : b ≡ 41 → Parens v ≡ Percent.in_parens u
-  unfolding Percent.in_parens
-  parens_closed m = rw (← e, ← q, ← l, ← a, m)
+pub piece_reads : (t : Text) → Percent.piece_after t ≡
+    cond (has t 0 105) Number
+    (cond (has t 0 43 || (has t 0 124 || (has t 0 45 || has t 0 95))) (Prefixed (get_or t 0 0) (Percent.variable_of (drop 1 t)))
+    (cond (has t 0 40) (Percent.in_parens (drop 1 t))
+    (Bare (Percent.variable_of t))))
+unfolding Percent.piece_after Percent.is_prefix
+piece_reads t =
+    rw (
+      has_byte t 0 105 (omega arith),
+      has_byte t 0 43 (omega arith),
+      has_byte t 0 124 (omega arith),
+      has_byte t 0 45 (omega arith),
+      has_byte t 0 95 (omega arith),
+      has_byte t 0 40 (omega arith),
+    )
+    refl
 
 -- lengths
 

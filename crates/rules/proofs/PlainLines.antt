@@ -6,19 +6,25 @@ use mathlib.Core.List.{[], ◌∷◌}
 use mathlib.Core.Bool.{Bool, true, false, not, ◌||◌}
 use lib.ListN.{length, get_or, take, drop}
 use lib.Dec.{eqb}
-use borrow.Author.Tests.{eq-eqb, ne_eqb, eqb-true, eqb-false, not-true}
+use borrow.Author.Tests.{eq-eqb, eqb-true, eqb-false, not-true}
 use Rattle.text.specs.Bytes.{Text, Words, same, all_of, any_of, part}
 use Rattle.text.specs.Words.{words_fault}
 use Rattle.text.specs.Reading.{left, ahead, fault_of, Blanks, PlainFound, ByteWord, NoWord}
 use Rattle.text.proofs.Lists.{no, and_both}
+use Rattle.text.specs.Sources.{feed_end}
 use Rattle.text.proofs.Feeds.{FeedAt}
+use Rattle.text.proofs.Sources.{feed_some}
+use Rattle.std.specs.Prelude.{Option, Some, None, IfSome}
 use Rattle.text.proofs.Readers.{fault_cons, fault_nil, lower_zero, between_skip, between_over}
+use Rattle.rules.specs.declared.Form.TheVariants as form
 use Rattle.rules.specs.declared.Present.{Present}
+use Rattle.rules.specs.contracts.FormPartialEq.TheImpl as forms
+use Rattle.rules.proofs.RuleFaults.{indexed_is}
 use Rattle.rules.specs.Words.{is_equals, ordinary, left_word}
 use Rattle.rules.specs.Percent.{pieces, bad_piece, malformed}
 use Rattle.rules.specs.Entries.{ignored, rule, rule_entry, entry_of}
 use Rattle.rules.specs.Faults.{rule_shape, shape_fault}
-use Rattle.rules.specs.Checking.{line_of, present_fault, line_fault, present_after, names_after}
+use Rattle.rules.specs.Checking.{is_absent, is_indexed, line_of, present_fault, line_fault, present_after, names_after}
 use Rattle.rules.proofs.Pieces.{pieces_byte}
 use Rattle.rules.specs.Plain.{good_right, good_left, LeftRead, RightWord, RightRead, RuleRead, Passes}
 
@@ -34,32 +40,24 @@ equals_cons : (i : Bool) (r : ℕ) (w : Text) (ws : Words) → fault_of w ≡ 0 
 unfolding good_left
 equals_cons i r w ws f o = rw (f, o) refl
 
--- j left words are still to be read
-pub record Lefts (s : Text) (f from n at j : ℕ) : Type 0 where
+-- k of n left words are read
+pub record Lefts (s : Text) (f from n at k : ℕ) : Type 0 where
   pub low : from ≤ at
   pub inside : at < f
-  pub words : (i : Bool) (r : ℕ) → good_left i r n (left s from) ≡ good_left i r j (left s at)
+  pub words : (i : Bool) (r : ℕ) → good_left i r n (left s from) ≡ good_left i r (n - k) (left s at)
   pub onto : (m : ℕ) → m ≤ from + 1 → ahead s from m ≡ ahead s at m
 
-pub lefts_start : (s : Text) (f from n : ℕ) → from < f → Lefts s f from n from n
-lefts_start s f from n h = record { low = omega arith; inside = h; words = λ i r. refl; onto = λ m l. refl }
-
-module _ (s : Text) (f from n at j : ℕ) (v : Lefts s f from n at j) where
-  pub lefts_more : (a e : ℕ) → 0 < j → PlainFound s f at a e → left_word (part s a e) ≡ true → Lefts s f from n e (j - 1)
+module _ (s : Text) (f from n at k : ℕ) (v : Lefts s f from n at k) where
+  pub lefts_more : (a e : ℕ) → k < n → PlainFound s f at a e → left_word (part s a e) ≡ true → Lefts s f from n e (k + 1)
   lefts_more a e h w o =
       let u = w.found 0 (omega arith) in
-      let q : j ≡ suc (j - 1) = omega arith in
+      let q : n - k ≡ suc (n - (k + 1)) = omega arith in
       record {
         low = omega (arith, v.low, u.low, u.some);
         inside = w.inside;
-        words = λ i r. v.words i r ∙ (rw u.text (left_cons i r j (j - 1) (part s a e) (left s e) q (sym u.fault) o));
+        words = λ i r. v.words i r ∙ (rw u.text (left_cons i r (n - k) (n - (k + 1)) (part s a e) (left s e) q (sym u.fault) o));
         onto = λ m l. v.onto m l ∙ (w.found m (omega (arith, l, v.low))).onto;
       }
-
-  pub lefts_end : j ≤ 0 → LeftRead s f from n at
-  lefts_end h =
-      let q : j ≡ 0 = omega arith in
-      record { low = v.low; inside = v.inside; words = rw q at v.words; onto = v.onto }
 
 -- a word without percent signs is not malformed
 no_percent : (i : Bool) (w : Text) → any_of (λ b. eqb b 37) w ≡ false → malformed i w ≡ false
@@ -75,42 +73,30 @@ pub word_plain : (s : Text) (f : ℕ) (i : Bool) (from a e : ℕ) → PlainFound
     RightWord s f i from e
 word_plain s f i from a e w o = record { start = a; word = w.0; plain = o; sound = no_percent i (part s a e) w.1 }
 
-pub word_percent : (s : Text) (f : ℕ) (i : Bool) (from a e : ℕ) → PlainFound s f from a e → ordinary (part s a e) ≡ true → malformed i (part s a e) ≡ false →
-    RightWord s f i from e
-word_percent s f i from a e w o m = record { start = a; word = w; plain = o; sound = m }
-
--- j right words are still to be read
-pub record Rights (s : Text) (f : ℕ) (i : Bool) (from n at j : ℕ) : Type 0 where
+-- k of n right words are read
+pub record Rights (s : Text) (f : ℕ) (i : Bool) (from n at k : ℕ) : Type 0 where
   pub low : from ≤ at
   pub inside : at < f
-  pub words : good_right i n (left s from) ≡ good_right i j (left s at)
+  pub words : good_right i n (left s from) ≡ good_right i (n - k) (left s at)
   pub onto : (m : ℕ) → m ≤ from + 1 → ahead s from m ≡ ahead s at m
 
-pub rights_start : (s : Text) (f : ℕ) (i : Bool) (from n : ℕ) → from < f → Rights s f i from n from n
-rights_start s f i from n h = record { low = omega arith; inside = h; words = refl; onto = λ m l. refl }
-
-module _ (s : Text) (f : ℕ) (i : Bool) (from n at j : ℕ) (v : Rights s f i from n at j) where
-  pub rights_more : (e : ℕ) → 0 < j → RightWord s f i at e → Rights s f i from n e (j - 1)
+module _ (s : Text) (f : ℕ) (i : Bool) (from n at k : ℕ) (v : Rights s f i from n at k) where
+  pub rights_more : (e : ℕ) → k < n → RightWord s f i at e → Rights s f i from n e (k + 1)
   rights_more e h r =
       let a = r.start in
       let w = r.word in
       let u = w.found 0 (omega arith) in
-      let q : j ≡ suc (j - 1) = omega arith in
+      let q : n - k ≡ suc (n - (k + 1)) = omega arith in
       record {
         low = omega (arith, v.low, u.low, u.some);
         inside = w.inside;
-        words = v.words ∙ (rw u.text (right_cons i j (j - 1) (part s a e) (left s e) q (sym u.fault) r.plain r.sound));
+        words = v.words ∙ (rw u.text (right_cons i (n - k) (n - (k + 1)) (part s a e) (left s e) q (sym u.fault) r.plain r.sound));
         onto = λ m l. v.onto m l ∙ (w.found m (omega (arith, l, v.low))).onto;
       }
 
-  pub rights_end : j ≤ 0 → RightRead s f i from n at
-  rights_end h =
-      let q : j ≡ 0 = omega arith in
-      record { low = v.low; inside = v.inside; words = rw q at v.words; onto = v.onto }
-
 -- a rule: its left words up to a, `=` up to c, its right words up to d, and then nothing but blanks up to the line end at e, which goes up to z
-pub rule_read : (s : Text) (f from : ℕ) (p : Present) (a c d e z : ℕ) → LeftRead s f from p.left a → ByteWord s f a 61 c →
-    RightRead s f (eqb p.form 2) c p.right d → Blanks s d e → FeedAt s e z → RuleRead s from p z
+rule_read : (s : Text) (f from : ℕ) (p : Present) (a c d e z : ℕ) → LeftRead s f from p.left a → ByteWord s f a 61 c →
+    RightRead s f (is_indexed p.form) c p.right d → Blanks s d e → FeedAt s e z → RuleRead s from p z
 unfolding good_right is_equals same
 rule_read s f from p a c d e z l v r k g =
     let w = v.word in
@@ -120,14 +106,19 @@ rule_read s f from p a c d e z l v r k g =
     record {
       low = omega (arith, l.low, u.low, u.some, r.low, k.low, g.low);
       high = g.high;
-      good = l.words (eqb p.form 2) p.right
-          ∙ (rw u.text (equals_cons (eqb p.form 2) p.right (part s v.start c) (left s c) (sym u.fault) o)
+      good = l.words (is_indexed p.form) p.right
+          ∙ (rw u.text (equals_cons (is_indexed p.form) p.right (part s v.start c) (left s c) (sym u.fault) o)
           ∙ (r.words ∙ rw (x 0 (omega arith)).none refl));
       onto = λ m y.
           l.onto m y
           ∙ ((w.found m (omega (arith, y, l.low))).onto
           ∙ (r.onto m (omega (arith, y, l.low, u.low, u.some)) ∙ (x m (omega (arith, y, l.low, u.low, u.some, r.low))).onto));
     }
+
+pub rule_reads : (s : Text) (f from : ℕ) (p : Present) (a c d e : ℕ) (i : Bool) → i ≡ forms.ghosts.eq p.form form.Indexed → LeftRead s f from p.left a → ByteWord s f a 61 c →
+    RightRead s f i c p.right d → Blanks s d e → (r : Option ℕ) → r ≡ feed_end s e → IfSome r (RuleRead s from p)
+rule_reads s f from p a c d e i q l v w k None g = tt
+rule_reads s f from p a c d e i q l v w k (Some z) g = rule_read s f from p a c d e z l v (rw (q, indexed_is p.form) at w) k (feed_some s e (Some z) z g refl)
 
 -- what is known of words of which nothing is refused
 
@@ -197,11 +188,11 @@ left_good i r (suc l) (w ∷ ws) h =
 
 -- a rule of which nothing is refused
 
-present_good : (p : Present) (ws : Words) → (p.form ≡ 0 → ⊥) → good_left (eqb p.form 2) p.right p.left ws ≡ true → present_fault p ws ≡ 0
+present_good : (p : Present) (ws : Words) → (is_absent p.form ≡ false) → good_left (is_indexed p.form) p.right p.left ws ≡ true → present_fault p ws ≡ 0
 unfolding present_fault shape_fault rule_shape
 present_good p ws n h =
-    let v = left_good (eqb p.form 2) p.right p.left ws h in
-    rw (ne_eqb p.form 0 n, eq-eqb _ _ v.long, v.lefts, v.equals, v.plain, v.percent) refl
+    let v = left_good (is_indexed p.form) p.right p.left ws h in
+    rw (n, eq-eqb _ _ v.long, v.lefts, v.equals, v.plain, v.percent) refl
 
 rule_entry_lem : (n : ℕ) (i : Bool) (r l : ℕ) (ws : Words) → Whole i r l ws → entry_of (line_of n false ws) ≡ rule ws
 unfolding entry_of rule_entry
@@ -212,10 +203,10 @@ no_entry : (n : ℕ) → entry_of (line_of n false []) ≡ ignored
 unfolding entry_of rule_entry
 no_entry n = rw fault_nil refl
 
-pub passes_rule : (p : Present) (ws : Words) (n : ℕ) → (p.form ≡ 0 → ⊥) → good_left (eqb p.form 2) p.right p.left ws ≡ true → Passes p (entry_of (line_of n false ws))
+pub passes_rule : (p : Present) (ws : Words) (n : ℕ) → (is_absent p.form ≡ false) → good_left (is_indexed p.form) p.right p.left ws ≡ true → Passes p (entry_of (line_of n false ws))
 unfolding line_fault names_after present_after
 passes_rule p ws n z h =
-    rw (rule_entry_lem n (eqb p.form 2) p.right p.left ws (left_good (eqb p.form 2) p.right p.left ws h))
+    rw (rule_entry_lem n (is_indexed p.form) p.right p.left ws (left_good (is_indexed p.form) p.right p.left ws h))
     (record { fault = λ ns. present_good p ws z h; names = λ ns. refl; present = refl })
 
 pub passes_none : (p : Present) (n : ℕ) → Passes p (entry_of (line_of n false []))

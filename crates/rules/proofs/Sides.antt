@@ -1,30 +1,36 @@
 -- The two sides of a set heading, read word by word.
-use Prim.Native.Nat.{ℕ, suc, ◌+◌, ◌≤◌, ◌<◌}
+use Prim.Native.Nat.{ℕ, suc, ◌+◌, ◌-◌, ◌≤◌, ◌<◌}
 use native.Mathlib.Omega.{arith}
 use native.Mathlib.Numerals.{add-one}
 use mathlib.Core.Path.{◌≡◌, refl, sym, ap, ◌∙◌}
-use mathlib.Core.List.{List, [], ◌∷◌, map}
+use mathlib.Core.List.{List, [], ◌∷◌, ◌++◌, map, append-nil}
 use mathlib.Core.Bool.{Bool, true, false, not, ◌&&◌, cond, false≢true, and-true, and-false}
-use lib.ListN.{length, take, drop, get_or, length-map, drop_of_length-le}
-use lib.Seq.{drop-cons, get_or-take}
-use lib.Dec.{eqb, ltb, leb}
-use borrow.Author.Tests.{le-leb}
-use Rattle.text.specs.Bytes.{Text, Words, all_of, concat_map}
-use Rattle.text.proofs.Lists.{and_both}
+use mathlib.Core.Logic.{◌⊎◌, ⊎_elim}
+use lib.ListN.{length, take, drop, get_or, length-map, length-append, length-drop, take-append-drop, get_or-map}
+use lib.Seq.{get_or-take, take-suc, take_all}
+use lib.Dec.{eqb, ltb}
+use borrow.Author.Tests.{eq-eqb, ne_eqb, le-ltb}
+use Rattle.std.specs.Prelude.{Option, Some, None, unwrap_or, option_to_list}
+use Rattle.std.specs.List.{list_any}
+use Rattle.std.proofs.lemmas.List.{length-take-le, get_or-drop}
+use Rattle.text.specs.Bytes.{Text, Words, all_of, any_of, concat_map}
+use Rattle.text.proofs.Lists.{and_both, both_and, map_append, concat_append}
 use Rattle.rules.specs.declared.Column.{Column}
 use Rattle.rules.specs.declared.Column.TheVariants as column
 use Rattle.rules.specs.declared.Index.{Index}
 use Rattle.rules.specs.declared.Index.TheVariants as index
 use Rattle.rules.specs.declared.Item.{Item}
 use Rattle.rules.specs.declared.Item.TheVariants as item
-use Rattle.rules.specs.declared.Listing.{Listing}
-use Rattle.rules.specs.declared.LeftSide.{LeftSide}
 use Rattle.rules.specs.declared.SetHeading.{SetHeading}
+use Rattle.rules.specs.declared.listing.Listing.{Listing}
+use Rattle.rules.specs.declared.sets.LeftSide.{LeftSide}
+use Rattle.rules.specs.contracts.ColumnPartialEq.TheImpl as columns
 use Rattle.rules.specs.Words.{is_equals}
-use Rattle.rules.specs.Headings.{left_item, component_of, column_number, columns_in, indexes_in, index_number, known_index, known_item, distinct, alike, first_index, good_items, heading_of}
+use Rattle.rules.specs.Headings.{left_item, component_of, column_number, columns_in, indexes_in, index_number, known_item, distinct, alike, first_index, good_items, heading_of}
 use Rattle.rules.specs.Entries.{before, after}
-use Rattle.rules.specs.Sets.{nothing_listed, added_all, added_component, added_components, no_items, good_index, with_column, with_indexed, with_unknown, with_item, with_items, Holds, IsSet}
-use Rattle.rules.proofs.Listings.{Kept, listing_all, components_known, components_unknown, few}
+use Rattle.rules.specs.Sets.{known_component, Holds, IsSet}
+use Rattle.rules.specs.Sides.{left_good, right_good, LeftHeld, RightHeld}
+use Rattle.rules.proofs.Listings.{all_snoc, eqb_swap, distinct_snoc, all_front, distinct_front, few}
 
 -- the words before the first `=`, and those after it
 
@@ -68,133 +74,6 @@ sides_high (w ∷ ws) = go (is_equals w) (sides_high ws)
 before_at : (ws : Words) (i : ℕ) → i < length (before ws) → get_or (before ws) i [] ≡ get_or ws i []
 before_at ws i h = ap (λ (r : Words). get_or r i []) (before_take ws) ∙ get_or-take (length (before ws)) ws i [] h
 
--- the loop over the left items
-
-items_cons : (s : LeftSide) (x : Item) (r : List Item) → with_items s (x ∷ r) ≡ with_items (with_item s x) r
-unfolding with_items
-items_cons s x r = refl
-
-items_nil : (s : LeftSide) → with_items s [] ≡ s
-unfolding with_items
-items_nil s = refl
-
-pub record OnLeft (ws : Words) (s : LeftSide) (i : ℕ) : Type 0 where
-  pub high : i ≤ length (before ws)
-  pub rest : with_items no_items (map left_item (before ws)) ≡ with_items s (map left_item (drop i (before ws)))
-
-pub left_start : (ws : Words) (s : LeftSide) → s ≡ no_items → OnLeft ws s 0
-left_start ws s e = record { high = omega arith; rest = rw e }
-
-module _ (ws : Words) (s : LeftSide) (i : ℕ) (v : OnLeft ws s i) where
-  pub left_more : (w : Text) (x : Item) (s' : LeftSide) → i < length (before ws) → w ≡ get_or ws i [] → x ≡ left_item w → s' ≡ with_item s x → OnLeft ws s' (i + 1)
-  left_more w x s' l e f g =
-      let d : drop i (before ws) ≡ w ∷ drop (i + 1) (before ws) =
-      drop-cons (before ws) i [] l ∙ rw (before_at ws i l, e, add-one i) in
-      record { high = omega arith; rest = v.rest ∙ (rw (d, g, f) (items_cons s (left_item w) (map left_item (drop (i + 1) (before ws))))) }
-
-  pub left_end : length (before ws) ≤ i → s ≡ with_items no_items (map left_item (before ws))
-  left_end h = sym (v.rest ∙ rw (drop_of_length-le (before ws) h) (items_nil s))
-
--- the loop over the components
-
-components_cons : (l : Listing) (c : ℕ) (r : List ℕ) → added_components l (c ∷ r) ≡ added_components (added_component l c) r
-unfolding added_components
-components_cons l c r = refl
-
-components_nil : (l : Listing) → added_components l [] ≡ l
-unfolding added_components
-components_nil l = refl
-
-pub record OnRight (ws : Words) (l : Listing) (i : ℕ) : Type 0 where
-  pub rest : added_components nothing_listed (map component_of (after ws)) ≡ added_components l (map component_of (drop i ws))
-
-pub right_start : (ws : Words) (l : Listing) (i : ℕ) → l ≡ nothing_listed → i ≡ length (before ws) + 1 → OnRight ws l i
-right_start ws l i e f = record { rest = rw (e, f, after_drop ws) }
-
-module _ (ws : Words) (l : Listing) (i : ℕ) (v : OnRight ws l i) where
-  pub right_more : (w : Text) (c : ℕ) (l' : Listing) → i < length ws → w ≡ get_or ws i [] → c ≡ component_of w → l' ≡ added_component l c → OnRight ws l' (i + 1)
-  right_more w c l' h e f g =
-      let d : drop i ws ≡ w ∷ drop (i + 1) ws = drop-cons ws i [] h ∙ rw (e, add-one i) in
-      record { rest = v.rest ∙ (rw (d, g, f) (components_cons l (component_of w) (map component_of (drop (i + 1) ws)))) }
-
-  pub right_end : length ws ≤ i → l ≡ added_components nothing_listed (map component_of (after ws))
-  right_end h = sym (v.rest ∙ rw (drop_of_length-le ws h) (components_nil l))
-
--- the columns of left items, whether they are good, and their index
-
-pub columns_all : (s : LeftSide) (ls : List Item) → (with_items s ls).columns ≡ added_all s.columns (map column_number (concat_map columns_in ls))
-unfolding with_items with_item with_column with_indexed with_unknown added_all concat_map columns_in column_number
-columns_all s [] = refl
-columns_all s (item.Model ∷ ls) = columns_all (with_column s 1) ls
-columns_all s (item.Layout i ∷ ls) = columns_all (with_indexed s 2 i) ls
-columns_all s (item.Variant i ∷ ls) = columns_all (with_indexed s 3 i) ls
-columns_all s (item.Options ∷ ls) = columns_all (with_column s 4) ls
-columns_all s (item.Unknown ∷ ls) = columns_all (with_unknown s) ls
-
--- the indexes are alike, and alike the first one if it was met
-alike_from : Bool → Index → List Index → Bool
-alike_from true i r = all_of (λ j. eqb (index_number i) (index_number j)) r
-alike_from false i r = alike r
-
-alike_nil : (t : Bool) (i : Index) → alike_from t i [] ≡ true
-unfolding alike_from all_of alike
-alike_nil true i = refl
-alike_nil false i = refl
-
-by_turns : (g k e a o : Bool) → ((g && (k && e)) && (a && o)) ≡ (g && ((k && a) && (e && o)))
-by_turns false k e a o = refl
-by_turns true false e a o = refl
-by_turns true true true a o = refl
-by_turns true true false a o = sym (and-false a)
-
-indexed_good : (s : LeftSide) (k : ℕ) (i : Index) (a : Bool) (r : List Index) →
-    ((with_indexed s k i).good && (a && alike_from (with_indexed s k i).met (with_indexed s k i).index r)) ≡ (s.good && ((known_index i && a) && alike_from s.met s.index (i ∷ r)))
-unfolding with_indexed good_index alike_from all_of alike
-indexed_good s k i a r = go s.met refl
-  where
-    go : (t : Bool) → s.met ≡ t →
-        ((with_indexed s k i).good && (a && alike_from true (cond s.met s.index i) r)) ≡ (s.good && ((known_index i && a) && alike_from s.met s.index (i ∷ r)))
-    go true e =
-        rw e
-        (by_turns s.good (known_index i) (eqb (index_number s.index) (index_number i)) a (all_of (λ j. eqb (index_number s.index) (index_number j)) r))
-    go false e = rw e (by_turns s.good (known_index i) true a (all_of (λ j. eqb (index_number i) (index_number j)) r))
-
-items_good : (s : LeftSide) (ls : List Item) →
-    (with_items s ls).good ≡ (s.good && (all_of known_item ls && alike_from s.met s.index (concat_map indexes_in ls)))
-unfolding with_items with_item with_column with_unknown all_of known_item concat_map indexes_in
-items_good s [] = sym (rw (alike_nil s.met s.index) (and-true s.good))
-items_good s (item.Model ∷ ls) = items_good (with_column s 1) ls
-items_good s (item.Layout i ∷ ls) = items_good (with_indexed s 2 i) ls ∙ indexed_good s 2 i (all_of known_item ls) (concat_map indexes_in ls)
-items_good s (item.Variant i ∷ ls) = items_good (with_indexed s 3 i) ls ∙ indexed_good s 3 i (all_of known_item ls) (concat_map indexes_in ls)
-items_good s (item.Options ∷ ls) = items_good (with_column s 4) ls
-items_good s (item.Unknown ∷ ls) = items_good (with_unknown s) ls ∙ sym (and-false s.good)
-
-pub good_all : (ls : List Item) → (with_items no_items ls).good ≡ (all_of known_item ls && alike (concat_map indexes_in ls))
-unfolding no_items alike_from
-good_all ls = items_good no_items ls
-
-index_met : (s : LeftSide) (ls : List Item) → s.met ≡ true → (with_items s ls).index ≡ s.index
-unfolding with_items with_item with_column with_indexed with_unknown
-index_met s [] h = refl
-index_met s (item.Model ∷ ls) h = index_met (with_column s 1) ls h
-index_met s (item.Layout i ∷ ls) h = index_met (with_indexed s 2 i) ls refl ∙ rw h
-index_met s (item.Variant i ∷ ls) h = index_met (with_indexed s 3 i) ls refl ∙ rw h
-index_met s (item.Options ∷ ls) h = index_met (with_column s 4) ls h
-index_met s (item.Unknown ∷ ls) h = index_met (with_unknown s) ls h
-
-index_first : (s : LeftSide) (ls : List Item) → s.met ≡ false → s.index ≡ index.Absent → (with_items s ls).index ≡ first_index (concat_map indexes_in ls)
-unfolding with_items with_item with_column with_indexed with_unknown concat_map indexes_in first_index
-index_first s [] h e = e
-index_first s (item.Model ∷ ls) h e = index_first (with_column s 1) ls h e
-index_first s (item.Layout i ∷ ls) h e = index_met (with_indexed s 2 i) ls refl ∙ rw h
-index_first s (item.Variant i ∷ ls) h e = index_met (with_indexed s 3 i) ls refl ∙ rw h
-index_first s (item.Options ∷ ls) h e = index_first (with_column s 4) ls h e
-index_first s (item.Unknown ∷ ls) h e = index_first (with_unknown s) ls h e
-
-pub index_all : (ls : List Item) → (with_items no_items ls).index ≡ first_index (concat_map indexes_in ls)
-unfolding no_items
-index_all ls = index_first no_items ls refl refl
-
 -- Distinct columns are at most four: 0 is none.
 
 all_columns : (p : ℕ → Bool) → ((c : Column) → p (column_number c) ≡ true) → (cs : List Column) → all_of p (map column_number cs) ≡ true
@@ -224,23 +103,23 @@ few_columns cs d =
     omega (arith, l, length-map cs column_number)
 
 -- a known item has one column
-known_columns : (ls : List Item) → all_of known_item ls ≡ true → length (concat_map columns_in ls) ≡ length ls
+known_columns : (ls : List (Option Item)) → all_of known_item ls ≡ true → length (concat_map columns_in ls) ≡ length ls
 unfolding all_of known_item concat_map columns_in
 known_columns [] h = refl
-known_columns (item.Model ∷ ls) h = ap suc (known_columns ls h)
-known_columns (item.Layout i ∷ ls) h = ap suc (known_columns ls (and_both (known_index i) (all_of known_item ls) h).1)
-known_columns (item.Variant i ∷ ls) h = ap suc (known_columns ls (and_both (known_index i) (all_of known_item ls) h).1)
-known_columns (item.Options ∷ ls) h = ap suc (known_columns ls h)
-known_columns (item.Unknown ∷ ls) h = absurd (false≢true h)
+known_columns (None ∷ ls) h = absurd (false≢true h)
+known_columns (Some item.Model ∷ ls) h = ap suc (known_columns ls h)
+known_columns (Some (item.Layout i) ∷ ls) h = ap suc (known_columns ls h)
+known_columns (Some (item.Variant i) ∷ ls) h = ap suc (known_columns ls h)
+known_columns (Some item.Options ∷ ls) h = ap suc (known_columns ls h)
 
 -- what good items are
-pub record GoodParts (ls : List Item) (rs : List ℕ) : Type 0 where
+pub record GoodParts (ls : List (Option Item)) (rs : List ℕ) : Type 0 where
   pub items : all_of known_item ls ≡ true
   pub components : all_of (λ c. ltb c 5) rs ≡ true
   pub left : distinct (map column_number (concat_map columns_in ls)) ≡ true
   pub right : distinct rs ≡ true
 
-pub good_parts : (ls : List Item) (rs : List ℕ) → good_items ls rs ≡ true → GoodParts ls rs
+pub good_parts : (ls : List (Option Item)) (rs : List ℕ) → good_items ls rs ≡ true → GoodParts ls rs
 unfolding good_items
 good_parts ls rs h =
     let a = and_both (all_of known_item ls) _ h in
@@ -267,77 +146,402 @@ too_many ws h = go (good_items (map left_item (before ws)) (map component_of (af
         ))
     go false e = refl
 
--- the heading as it is read
+-- columns as the code compares them
 
-columns_kept : (ls : List Item) → Kept (map column_number (concat_map columns_in ls)) (with_items no_items ls).columns
-unfolding no_items
-columns_kept ls = rw (columns_all no_items ls) (listing_all (map column_number (concat_map columns_in ls)))
+column_eq : (a b : Column) → columns.ghosts.eq a b ≡ eqb (column_number b) (column_number a)
+unfolding column_number
+column_eq column.Model column.Model = refl
+column_eq column.Model column.Layout = refl
+column_eq column.Model column.Variant = refl
+column_eq column.Model column.Options = refl
+column_eq column.Layout column.Model = refl
+column_eq column.Layout column.Layout = refl
+column_eq column.Layout column.Variant = refl
+column_eq column.Layout column.Options = refl
+column_eq column.Variant column.Model = refl
+column_eq column.Variant column.Layout = refl
+column_eq column.Variant column.Variant = refl
+column_eq column.Variant column.Options = refl
+column_eq column.Options column.Model = refl
+column_eq column.Options column.Layout = refl
+column_eq column.Options column.Variant = refl
+column_eq column.Options column.Options = refl
 
-columns_good : (ls : List Item) → (with_items no_items ls).columns.good ≡ distinct (map column_number (concat_map columns_in ls))
-columns_good ls = (columns_kept ls).good ∙ go (distinct (map column_number (concat_map columns_in ls))) refl
+column_there : (cs : List Column) (c : Column) → list_any (λ y. columns.ghosts.eq y c) cs ≡ any_of (eqb (column_number c)) (map column_number cs)
+unfolding any_of
+column_there [] c = refl
+column_there (y ∷ cs) c = rw (column_eq y c, column_there cs c) refl
+
+-- indexes are equal where their numbers are
+
+index_by : ℕ → Index
+index_by n =
+    cond (ltb n 5) (cond (eqb n 0) index.Absent (cond (eqb n 1) index.Single (cond (eqb n 2) index.First (cond (eqb n 3) index.Later index.Any))))
+    (index.Numbered (n - 5))
+
+index_back : (i : Index) → index_by (index_number i) ≡ i
+unfolding index_by index_number
+index_back index.Absent = refl
+index_back index.Single = refl
+index_back index.First = refl
+index_back index.Later = refl
+index_back index.Any = refl
+index_back (index.Numbered k) = let e : 5 + k - 5 ≡ k = omega arith in rw (le-ltb (5 + k) 5 (omega arith), e) refl
+
+index_ne : (i j : Index) → (i ≡ j → ⊥) → eqb (index_number i) (index_number j) ≡ false
+index_ne i j n = ne_eqb (index_number i) (index_number j) (λ e. n (sym (index_back i) ∙ (ap index_by e ∙ index_back j)))
+
+-- left items with one more
+
+concat_snoc : {A B : Type 0} (f : A → List B) (xs : List A) (x : A) → concat_map f (xs ++ (x ∷ [])) ≡ concat_map f xs ++ f x
+unfolding concat_map
+concat_snoc f xs x = concat_append f xs (x ∷ []) ∙ ap (λ r. concat_map f xs ++ r) (append-nil (f x))
+
+left_snoc : (ls : List (Option Item)) (x : Option Item) → left_good (ls ++ (x ∷ [])) ≡
+    ((all_of known_item ls && known_item x)
+    && (distinct (map column_number (concat_map columns_in ls ++ columns_in x)) && alike (concat_map indexes_in ls ++ indexes_in x)))
+unfolding left_good
+left_snoc ls x = rw (all_snoc known_item ls x, concat_snoc columns_in ls x, concat_snoc indexes_in ls x) refl
+
+-- what good left items are
+record LeftParts (ls : List (Option Item)) : Type 0 where
+  known : all_of known_item ls ≡ true
+  columns : distinct (map column_number (concat_map columns_in ls)) ≡ true
+  indexes : alike (concat_map indexes_in ls) ≡ true
+
+left_parts : (ls : List (Option Item)) → left_good ls ≡ true → LeftParts ls
+unfolding left_good
+left_parts ls h =
+    let a = and_both (all_of known_item ls) _ h in
+    let b = and_both (distinct (map column_number (concat_map columns_in ls))) _ a.1 in
+    record { known = a.0; columns = b.0; indexes = b.1 }
+
+alike_front : (is js : List Index) → alike (is ++ js) ≡ true → alike is ≡ true
+unfolding alike
+alike_front [] js h = refl
+alike_front (i ∷ is) js h = all_front (λ j. eqb (index_number i) (index_number j)) is js h
+
+left_front : (ls ms : List (Option Item)) → left_good (ls ++ ms) ≡ true → left_good ls ≡ true
+unfolding left_good
+left_front ls ms h =
+    let a = left_parts (ls ++ ms) h in
+    let c = rw (concat_append columns_in ls ms, map_append column_number (concat_map columns_in ls) (concat_map columns_in ms)) at a.columns in
+    let d = rw (concat_append indexes_in ls ms) at a.indexes in
+    both_and (all_of known_item ls) _ (all_front known_item ls ms a.known)
+    (both_and (distinct (map column_number (concat_map columns_in ls))) (alike (concat_map indexes_in ls)) (distinct_front _ _ c) (alike_front _ _ d))
+
+-- one that is bad makes all bad
+by_front : (a b : Bool) → (a ≡ true → b ≡ true) → b ≡ false → a ≡ false
+by_front true b f h = sym (f refl) ∙ h
+by_front false b f h = refl
+
+pub left_bad : (ls : List (Option Item)) (k : ℕ) → left_good (take k ls) ≡ false → left_good ls ≡ false
+left_bad ls k h = by_front (left_good ls) (left_good (take k ls)) (λ e. left_front (take k ls) (drop k ls) (rw (take-append-drop k ls) e)) h
+
+pub left_unknown : (ls : List (Option Item)) → left_good (ls ++ (None ∷ [])) ≡ false
+unfolding known_item
+left_unknown ls = left_snoc ls None ∙ rw (and-false (all_of known_item ls)) refl
+
+-- the first index
+head_is : (is : List Index) (i : Index) → i ∷ [] ≡ take 1 is → is ≡ i ∷ drop 1 is
+head_is [] i h = cc
+head_is (j ∷ is) i h = cc
+
+none_is : (is : List Index) → [] ≡ take 1 is → is ≡ []
+none_is [] h = refl
+none_is (j ∷ is) h = cc
+
+head_stays : (is js : List Index) (i : Index) → i ∷ [] ≡ take 1 is → i ∷ [] ≡ take 1 (is ++ js)
+head_stays is js i h = rw (head_is is i h) refl
+
+alike_more : (is : List Index) (i j : Index) → i ∷ [] ≡ take 1 is → alike is ≡ true → alike (is ++ (j ∷ [])) ≡ eqb (index_number i) (index_number j)
+unfolding alike
+alike_more is i j h a =
+    let e = head_is is i h in
+    let b = rw e at a in
+    rw e (all_snoc (λ j. eqb (index_number i) (index_number j)) (drop 1 is) j ∙ rw b refl)
+
+module _ (ls : List (Option Item)) (s : LeftSide) (v : LeftHeld ls s) (x : Item) (c : Column) (e : c ∷ [] ≡ columns_in (Some x)) where
+  abbrev cs : List Column
+  cs = concat_map columns_in ls
+
+  abbrev is : List Index
+  is = concat_map indexes_in ls
+
+  abbrev old : List Column
+  old = take s.columns.count s.columns.items
+
+  abbrev there : Bool
+  there = list_any (λ y. columns.ghosts.eq y c) old
+
+  columns_more : distinct (map column_number (cs ++ columns_in (Some x))) ≡ not there
+  columns_more =
+      rw (← e, map_append column_number cs (c ∷ []), distinct_snoc (map column_number cs) (column_number c), (left_parts ls v.good).columns)
+      (ap not (sym (column_there cs c) ∙ ap (λ r. list_any (λ y. columns.ghosts.eq y c) r) (sym v.columns)))
+
+  size : length cs ≡ s.columns.count
+  size = sym (ap length v.columns) ∙ length-take-le s.columns.count s.columns.items (omega (arith, s.columns.few, s.columns.sized))
+
+  distinct_full : s.columns.count ≡ 4 → distinct (map column_number (cs ++ columns_in (Some x))) ≡ false
+  distinct_full f = go (distinct (map column_number (cs ++ columns_in (Some x)))) refl
+    where
+      go : (t : Bool) → distinct (map column_number (cs ++ columns_in (Some x))) ≡ t → t ≡ false
+      go true d =
+          let l = few_columns (cs ++ columns_in (Some x)) d in
+          let n : length (cs ++ columns_in (Some x)) ≡ length cs + 1 = rw (← e) (length-append cs (c ∷ [])) in
+          absurd (omega (arith, l, n, size))
+      go false d = refl
+
+  pub column_bad : (s.columns.count ≡ 4) ⊎ (list_any (λ y. columns.ghosts.eq y c) (take s.columns.count s.columns.items) ≡ true) →
+      left_good (ls ++ (Some x ∷ [])) ≡ false
+  unfolding known_item
+  column_bad h =
+      let d : distinct (map column_number (cs ++ columns_in (Some x))) ≡ false = ⊎_elim distinct_full (λ t. columns_more ∙ ap not t) h in
+      left_snoc ls (Some x) ∙ rw d (and-false (all_of known_item ls && true))
+
+  pub index_bad : (i j : Index) → s.index ≡ Some i → j ∷ [] ≡ indexes_in (Some x) → (i ≡ j → ⊥) → left_good (ls ++ (Some x ∷ [])) ≡ false
+  unfolding known_item
+  index_bad i j a d n =
+      let h : i ∷ [] ≡ take 1 is = rw (ap option_to_list a) at v.index in
+      let k : alike (is ++ indexes_in (Some x)) ≡ false = rw (← d) (alike_more is i j h (left_parts ls v.good).indexes ∙ index_ne i j n) in
+      left_snoc ls (Some x) ∙ rw (k, and-false (distinct (map column_number (cs ++ columns_in (Some x))))) (and-false (all_of known_item ls && true))
+
+  module _ (l : Listing Column 4) (t : list_any (λ y. columns.ghosts.eq y c) (take s.columns.count s.columns.items) ≡ false)
+      (k : take l.count l.items ≡ take s.columns.count s.columns.items ++ (c ∷ [])) where
+    held : (o : Option Index) → alike (is ++ indexes_in (Some x)) ≡ true → option_to_list o ≡ take 1 (is ++ indexes_in (Some x)) →
+        LeftHeld (ls ++ (Some x ∷ [])) (record { columns = l; index = o })
+    unfolding known_item
+    held o a h =
+        record {
+          good = left_snoc ls (Some x) ∙ rw ((left_parts ls v.good).known, columns_more ∙ ap not t, a) refl;
+          columns = k ∙ (rw (v.columns, e) refl ∙ sym (concat_snoc columns_in ls (Some x)));
+          index = h ∙ ap (take 1) (sym (concat_snoc indexes_in ls (Some x)));
+        }
+
+    pub held_alike : (i j : Index) → s.index ≡ Some i → j ∷ [] ≡ indexes_in (Some x) → i ≡ j → LeftHeld (ls ++ (Some x ∷ [])) (record { columns = l; index = Some i })
+    held_alike i j a d q =
+        let h : i ∷ [] ≡ take 1 is = rw (ap option_to_list a) at v.index in
+        held (Some i) (rw (← d) (alike_more is i j h (left_parts ls v.good).indexes ∙ eq-eqb _ _ (ap index_number q))) (head_stays is (indexes_in (Some x)) i h)
+
+    pub held_bare : (i : Index) → s.index ≡ Some i → [] ≡ indexes_in (Some x) → LeftHeld (ls ++ (Some x ∷ [])) (record { columns = l; index = Some i })
+    held_bare i a d =
+        let h : i ∷ [] ≡ take 1 is = rw (ap option_to_list a) at v.index in
+        held (Some i) (rw (← d, append-nil is) (left_parts ls v.good).indexes) (head_stays is (indexes_in (Some x)) i h)
+
+    pub held_first : s.index ≡ None → (o : Option Index) → option_to_list o ≡ indexes_in (Some x) → LeftHeld (ls ++ (Some x ∷ [])) (record { columns = l; index = o })
+    unfolding alike all_of
+    held_first a o d =
+        let h : is ≡ [] = none_is is (rw (ap option_to_list a) at v.index) in
+        held o (rw (h, ← d) (lone o)) (rw (h, ← d) (front o))
+      where
+        lone : (o : Option Index) → alike (option_to_list o) ≡ true
+        lone None = refl
+        lone (Some i) = refl
+
+        front : (o : Option Index) → option_to_list o ≡ take 1 (option_to_list o)
+        front None = refl
+        front (Some i) = refl
+
+-- components with one more
+
+component_there : (rs : List ℕ) (c : ℕ) → list_any (λ y. eqb y c) rs ≡ any_of (eqb c) rs
+unfolding any_of
+component_there [] c = refl
+component_there (y ∷ rs) c = rw (eqb_swap y c, component_there rs c) refl
+
+right_snoc : (rs : List ℕ) (c : ℕ) → right_good (rs ++ (c ∷ [])) ≡ ((all_of (λ k. ltb k 5) rs && ltb c 5) && (distinct rs && not (any_of (eqb c) rs)))
+unfolding right_good
+right_snoc rs c = rw (all_snoc (λ k. ltb k 5) rs c, distinct_snoc rs c) refl
+
+right_front : (rs qs : List ℕ) → right_good (rs ++ qs) ≡ true → right_good rs ≡ true
+unfolding right_good
+right_front rs qs h =
+    let a = and_both (all_of (λ k. ltb k 5) (rs ++ qs)) (distinct (rs ++ qs)) h in
+    both_and (all_of (λ k. ltb k 5) rs) (distinct rs) (all_front (λ k. ltb k 5) rs qs a.0) (distinct_front rs qs a.1)
+
+pub right_bad : (rs : List ℕ) (k : ℕ) → right_good (take k rs) ≡ false → right_good rs ≡ false
+right_bad rs k h = by_front (right_good rs) (right_good (take k rs)) (λ e. right_front (take k rs) (drop k rs) (rw (take-append-drop k rs) e)) h
+
+known_low : (c k : ℕ) → known_component c ≡ Some k → (ltb c 5 ≡ true) × (k ≡ c)
+unfolding known_component
+known_low c k h = go (ltb c 5) refl h
   where
-    go : (t : Bool) → distinct (map column_number (concat_map columns_in ls)) ≡ t → (t && leb (length (map column_number (concat_map columns_in ls))) 5) ≡ t
-    go true e =
-        le-leb (length (map column_number (concat_map columns_in ls))) 5
-        (omega (arith, few_columns (concat_map columns_in ls) e, length-map (concat_map columns_in ls) column_number))
-    go false e = refl
+    go : (t : Bool) → ltb c 5 ≡ t → cond t (Some c) None ≡ Some k → (ltb c 5 ≡ true) × (k ≡ c)
+    go true e q = (e, cc)
+    go false e q = cc
 
-components_good : (rs : List ℕ) → (added_components nothing_listed rs).good ≡ (all_of (λ c. ltb c 5) rs && distinct rs)
-components_good rs = go (all_of (λ c. ltb c 5) rs) (distinct rs) refl refl
+known_not : (c : ℕ) → known_component c ≡ None → ltb c 5 ≡ false
+unfolding known_component
+known_not c h = go (ltb c 5) refl h
   where
-    go : (t u : Bool) → all_of (λ c. ltb c 5) rs ≡ t → distinct rs ≡ u → (added_components nothing_listed rs).good ≡ (t && u)
-    go true true e f = rw (components_known nothing_listed rs e) ((listing_all rs).good ∙ rw (f, le-leb (length rs) 5 (few rs f e)))
-    go true false e f = rw (components_known nothing_listed rs e) ((listing_all rs).good ∙ rw f)
-    go false u e f = components_unknown nothing_listed rs e
+    go : (t : Bool) → ltb c 5 ≡ t → cond t (Some c) None ≡ None → ltb c 5 ≡ false
+    go true e q = cc
+    go false e q = e
 
-in_order : (k a d b e : Bool) → ((k && a) && (d && (b && e))) ≡ (k && (b && (d && (e && a))))
-in_order false a d b e = refl
-in_order true true d true e = rw (and-true e)
-in_order true true true false e = refl
-in_order true true false false e = refl
-in_order true false d true e = sym (rw (and-false e) (and-false d))
-in_order true false d false e = refl
+pub right_unknown : (rs : List ℕ) (c : ℕ) → known_component c ≡ None → right_good (rs ++ (c ∷ [])) ≡ false
+right_unknown rs c h = right_snoc rs c ∙ rw (known_not c h, and-false (all_of (λ k. ltb k 5) rs)) refl
 
-abbrev joined : LeftSide → Listing → Bool → SetHeading
-joined l r g = record { good = g; left = l.columns.count; columns = l.columns.items; index = l.index; right = r.count; components = r.items }
+module _ (rs : List ℕ) (l : Listing ℕ 5) (v : RightHeld rs l) (c k : ℕ) (e : known_component c ≡ Some k) where
+  parts : (all_of (λ k. ltb k 5) rs ≡ true) × (distinct rs ≡ true)
+  unfolding right_good
+  parts = and_both (all_of (λ k. ltb k 5) rs) (distinct rs) v.good
 
-module _ (ls : List Item) (rs : List ℕ) (l : LeftSide) (r : Listing) (g : Bool) (p : l ≡ with_items no_items ls) (q : r ≡ added_components nothing_listed rs) (e : g ≡ (l.good && (l.columns.good && r.good))) where
-  read_good : g ≡ good_items ls rs
-  unfolding good_items
-  read_good =
-      e ∙ rw (p, q, good_all ls, columns_good ls, components_good rs)
-      (in_order (all_of known_item ls) (alike (concat_map indexes_in ls)) (distinct (map column_number (concat_map columns_in ls))) (all_of (λ c. ltb c 5) rs) (distinct rs))
+  right_more : right_good (rs ++ (c ∷ [])) ≡ not (list_any (λ y. eqb y k) (take l.count l.items))
+  right_more =
+      right_snoc rs c
+      ∙ rw (parts.0, parts.1, (known_low c k e).0, (known_low c k e).1, v.items, component_there rs c) refl
 
-  read_holds : g ≡ true → Holds (heading_of ls rs) (joined l r g)
-  unfolding heading_of
-  read_holds h =
-      let z = good_parts ls rs (sym read_good ∙ h) in
-      let a : Kept (map column_number (concat_map columns_in ls)) l.columns = rw p (columns_kept ls) in
-      let b : Kept rs r = rw (q, components_known nothing_listed rs z.components) (listing_all rs) in
-      let u = and_both l.good (l.columns.good && r.good) (sym e ∙ h) in
-      let v = and_both l.columns.good r.good u.1 in
-      let n = a.count v.0 in
-      let m = b.count v.1 in
-      let w = length-map (concat_map columns_in ls) column_number in
-      record {
-        left = n ∙ w;
-        right = m;
-        columns = sym (a.held v.0);
-        components = sym (b.held v.1);
-        index = rw p (index_all ls);
-        few_left = omega (arith, n, w, few_columns (concat_map columns_in ls) z.left);
-        few_right = omega (arith, m, few rs z.right z.components);
-        size_left = a.size;
-        size_right = b.size;
-      }
+  right_full : l.count ≡ 5 → right_good (rs ++ (c ∷ [])) ≡ false
+  unfolding right_good
+  right_full f = go (right_good (rs ++ (c ∷ []))) refl
+    where
+      go : (t : Bool) → right_good (rs ++ (c ∷ [])) ≡ t → t ≡ false
+      go true h =
+          let a = and_both (all_of (λ k. ltb k 5) (rs ++ (c ∷ []))) (distinct (rs ++ (c ∷ []))) h in
+          absurd (omega (arith, few (rs ++ (c ∷ [])) a.1 a.0, length-append rs (c ∷ []), ap length v.items, length-take-le l.count l.items (omega (arith, l.few, l.sized))))
+      go false h = refl
 
-pub is_set : (ws : Words) (l : LeftSide) (r : Listing) (g : Bool) →
-    l ≡ with_items no_items (map left_item (before ws)) →
-    r ≡ added_components nothing_listed (map component_of (after ws)) →
-    g ≡ (l.good && (l.columns.good && r.good)) →
-    IsSet ws (record { good = g; left = l.columns.count; columns = l.columns.items; index = l.index; right = r.count; components = r.items })
-is_set ws l r g p q e =
-    record {
-      good = read_good (map left_item (before ws)) (map component_of (after ws)) l r g p q e;
-      holds = read_holds (map left_item (before ws)) (map component_of (after ws)) l r g p q e;
-    }
+  pub component_bad : (l.count ≡ 5) ⊎ (list_any (λ y. eqb y k) (take l.count l.items) ≡ true) → right_good (rs ++ (c ∷ [])) ≡ false
+  component_bad h = ⊎_elim right_full (λ t. right_more ∙ ap not t) h
+
+  pub held_component : (m : Listing ℕ 5) → list_any (λ y. eqb y k) (take l.count l.items) ≡ false → take m.count m.items ≡ take l.count l.items ++ (k ∷ []) →
+      RightHeld (rs ++ (c ∷ [])) m
+  held_component m t q = record { good = right_more ∙ ap not t; items = q ∙ rw (v.items, (known_low c k e).1) refl }
+
+-- the loops over the words: the next one
+
+take-more : {A : Type 0} (xs : List A) (j : ℕ) (d x : A) → j < length xs → x ≡ get_or xs j d → take (j + 1) xs ≡ take j xs ++ (x ∷ [])
+take-more xs j d x h e = rw (add-one j, e) (take-suc xs j d h)
+
+take-whole : {A : Type 0} (xs : List A) (j : ℕ) → length xs ≤ j → take j xs ≡ xs
+take-whole xs j h = take_all j xs h
+
+module _ (ws : Words) where
+  abbrev pub lefts : List (Option Item)
+  lefts = map left_item (before ws)
+
+  abbrev pub rights : List ℕ
+  rights = map component_of (after ws)
+
+  pub left_next : (j : ℕ) → j < length (before ws) → (w : Text) → w ≡ get_or ws j [] → take (j + 1) lefts ≡ take j lefts ++ (left_item w ∷ [])
+  left_next j h w e =
+      take-more lefts j (left_item []) (left_item w) (omega (arith, length-map (before ws) left_item))
+      (ap left_item (e ∙ sym (before_at ws j h)) ∙ sym (get_or-map left_item (before ws) j []))
+
+  pub lefts_whole : (j : ℕ) → length (before ws) ≤ j → take j lefts ≡ lefts
+  lefts_whole j h = take-whole lefts j (omega (arith, length-map (before ws) left_item))
+
+  module _ (from : ℕ) (f : from ≡ length (before ws) + 1) where
+    rights_length : length rights ≡ length ws - from
+    rights_length = length-map (after ws) component_of ∙ (ap length (after_drop ws) ∙ (length-drop (length (before ws) + 1) ws ∙ rw f refl))
+
+    pub right_next : (j : ℕ) → from ≤ j → j < length ws → (w : Text) → w ≡ get_or ws j [] →
+        take (j + 1 - from) rights ≡ take (j - from) rights ++ (component_of w ∷ [])
+    right_next j l h w e =
+        let n : j + 1 - from ≡ j - from + 1 = omega arith in
+        let m : from + (j - from) ≡ j = omega arith in
+        rw n
+        (take-more rights (j - from) (component_of []) (component_of w) (omega (arith, rights_length))
+        (ap component_of (e ∙ (ap (λ i. get_or ws i []) (sym m) ∙ (sym (get_or-drop from ws (j - from) []) ∙ ap (λ r. get_or r (j - from) []) (rw f (sym (after_drop ws))))))
+        ∙ sym (get_or-map component_of (after ws) (j - from) [])))
+
+    pub rights_whole : (j : ℕ) → length ws ≤ j → take (j - from) rights ≡ rights
+    rights_whole j h = take-whole rights (j - from) (omega (arith, rights_length))
+
+pub left_start : (s : LeftSide) → s.columns.count ≡ 0 → s.index ≡ None → LeftHeld [] s
+unfolding left_good distinct alike all_of concat_map
+left_start s c i = record { good = refl; columns = rw c refl; index = rw i refl }
+
+module _ (ws : Words) (j : ℕ) (h : j < length (before ws)) (w : Text) (e : w ≡ get_or ws j []) (o : Option Item) (g : o ≡ left_item w) where
+  pub left_fails : o ≡ None → left_good (lefts ws) ≡ false
+  left_fails n = left_bad (lefts ws) (j + 1) (rw (left_next ws j h w e, ← g, n) (left_unknown (take j (lefts ws))))
+
+  module _ (x : Item) (a : o ≡ Some x) where
+    pub left_stops : left_good (take j (lefts ws) ++ (Some x ∷ [])) ≡ false → left_good (lefts ws) ≡ false
+    left_stops b = left_bad (lefts ws) (j + 1) (rw (left_next ws j h w e, ← g, a) b)
+
+    pub left_goes : (s : LeftSide) → LeftHeld (take j (lefts ws) ++ (Some x ∷ [])) s → LeftHeld (take (j + 1) (lefts ws)) s
+    left_goes s v = rw (left_next ws j h w e, ← g, a) v
+
+pub right_start : (l : Listing ℕ 5) → l.count ≡ 0 → RightHeld [] l
+unfolding right_good distinct all_of
+right_start l c = record { good = refl; items = rw c refl }
+
+module _ (ws : Words) (from : ℕ) (f : from ≡ length (before ws) + 1) (j : ℕ) (l : from ≤ j) (h : j < length ws) (w : Text) (e : w ≡ get_or ws j [])
+    (o : Option ℕ) (g : o ≡ known_component (component_of w)) where
+  pub right_fails : o ≡ None → right_good (rights ws) ≡ false
+  right_fails n =
+      right_bad (rights ws) (j + 1 - from) (rw (right_next ws from f j l h w e) (right_unknown (take (j - from) (rights ws)) (component_of w) (sym g ∙ n)))
+
+  module _ (c : ℕ) (a : o ≡ Some c) (m : Listing ℕ 5) (v : RightHeld (take (j - from) (rights ws)) m) where
+    pub right_stops : (m.count ≡ 5) ⊎ (list_any (λ y. eqb y c) (take m.count m.items) ≡ true) → right_good (rights ws) ≡ false
+    right_stops b =
+        right_bad (rights ws) (j + 1 - from)
+        (rw (right_next ws from f j l h w e) (component_bad (take (j - from) (rights ws)) m v (component_of w) c (sym g ∙ a) b))
+
+    pub right_goes : (n : Listing ℕ 5) → list_any (λ y. eqb y c) (take m.count m.items) ≡ false → take n.count n.items ≡ take m.count m.items ++ (c ∷ []) →
+        RightHeld (take (j + 1 - from) (rights ws)) n
+    right_goes n t q = rw (right_next ws from f j l h w e) (held_component (take (j - from) (rights ws)) m v (component_of w) c (sym g ∙ a) n t q)
+
+-- the heading of both sides
+
+in_order : (k b d e a : Bool) → (k && (b && (d && (e && a)))) ≡ ((k && (d && a)) && (b && e))
+in_order false b d e a = refl
+in_order true false d e a = sym (and-false (d && a))
+in_order true true false e a = refl
+in_order true true true false a = sym (and-false a)
+in_order true true true true a = sym (and-true a)
+
+sides_good : (ws : Words) → good_items (lefts ws) (rights ws) ≡ (left_good (lefts ws) && right_good (rights ws))
+unfolding good_items left_good right_good
+sides_good ws =
+    in_order (all_of known_item (lefts ws)) (all_of (λ c. ltb c 5) (rights ws)) (distinct (map column_number (concat_map columns_in (lefts ws))))
+    (distinct (rights ws)) (alike (concat_map indexes_in (lefts ws)))
+
+module _ (ws : Words) where
+  no_set : good_items (lefts ws) (rights ws) ≡ false → IsSet ws None
+  no_set h = record { good = sym h; holds = λ h e. cc }
+
+  pub set_many : 10 < length ws → IsSet ws None
+  set_many h = no_set (too_many ws h)
+
+  pub set_left : left_good (lefts ws) ≡ false → IsSet ws None
+  set_left h = no_set (sides_good ws ∙ rw h refl)
+
+  pub set_right : right_good (rights ws) ≡ false → IsSet ws None
+  set_right h = no_set (sides_good ws ∙ rw h (and-false (left_good (lefts ws))))
+
+  module _ (s : LeftSide) (v : LeftHeld (lefts ws) s) (l : Listing ℕ 5) (u : RightHeld (rights ws) l) where
+    first_is : unwrap_or s.index index.Absent ≡ first_index (concat_map indexes_in (lefts ws))
+    unfolding first_index
+    first_is = go s.index (concat_map indexes_in (lefts ws)) v.index
+      where
+        go : (o : Option Index) (is : List Index) → option_to_list o ≡ take 1 is → unwrap_or o index.Absent ≡ first_index is
+        go None [] h = refl
+        go None (i ∷ is) h = cc
+        go (Some j) [] h = cc
+        go (Some j) (i ∷ is) h = cc
+
+    listed : {A : Type 0} {n : ℕ} (l : Listing A n) → length (take l.count l.items) ≡ l.count
+    listed l = length-take-le l.count l.items (omega (arith, l.few, l.sized))
+
+    abbrev pub it : SetHeading
+    it = record { columns = s.columns; index = unwrap_or s.index index.Absent; components = l }
+
+    holds : Holds (heading_of (lefts ws) (rights ws)) it
+    unfolding heading_of
+    holds =
+        record {
+          left = sym (listed s.columns) ∙ ap length v.columns;
+          right = sym (listed l) ∙ ap length u.items;
+          columns = sym v.columns;
+          components = sym u.items;
+          index = first_is;
+        }
+
+    pub set_some : IsSet ws (Some it)
+    set_some =
+        record {
+          good = sym (sides_good ws ∙ rw (v.good, u.good) refl);
+          holds = λ h e. let q : it ≡ h = cc in rw (← q) holds;
+        }

@@ -30,9 +30,6 @@ pub record AllUpTo (q : Text → Bool) (ws : Words) (n j : ℕ) : Type 0 where
   pub rest : all_of q (take n ws) ≡ all_of q (take (n - j) (drop j ws))
 
 module _ (q : Text → Bool) (ws : Words) (n : ℕ) where
-  pub upto_start : AllUpTo q ws n 0
-  upto_start = record { high = omega arith; rest = let e : n - 0 ≡ n = omega arith in rw e }
-
   module _ (j : ℕ) (v : AllUpTo q ws n j) where
     upto_step : j < n → n ≤ length ws → all_of q (take (n - j) (drop j ws)) ≡ (q (get_or ws j []) && all_of q (take (n - (j + 1)) (drop (j + 1) ws)))
     upto_step h l =

@@ -1,5 +1,5 @@
 -- Set headings. Document 01, "Lines and words", "Set heading", and refusal 7.
-use Rattle.std.specs.Prelude.{ℕ, suc, zero, ◌+◌, ◌/◌, ◌%◌, List, [], ◌∷◌, ◌++◌, map, Bool, true, false, not, ◌&&◌, cond, take, drop, eqb, ltb}
+use Rattle.std.specs.Prelude.{ℕ, suc, zero, ◌+◌, ◌/◌, ◌%◌, List, [], ◌∷◌, ◌++◌, map, Bool, true, false, not, ◌&&◌, cond, take, drop, eqb, ltb, Option, Some, None, option_map}
 use Rattle.text.specs.Limits.{most_layouts}
 use Rattle.text.specs.Bytes.{Text, bytes, same, all_of, concat_map}
 use Rattle.rules.specs.declared.Column.{Column}
@@ -19,28 +19,28 @@ up_from zero k = []
 up_from (suc j) k = k ∷ up_from j (k + 1)
 
 -- the first of the numbers that stands in brackets
-unfoldable pub numbered_in : Text → List ℕ → Index
-numbered_in w [] = index.Wrong
-numbered_in w (k ∷ ks) = let r = numbered_in w ks in cond (same w ((91 ∷ decimal k) ++ (93 ∷ []))) (index.Numbered k) r
+unfoldable pub numbered_in : Text → List ℕ → Option Index
+numbered_in w [] = None
+numbered_in w (k ∷ ks) = let r = numbered_in w ks in cond (same w ((91 ∷ decimal k) ++ (93 ∷ []))) (Some (index.Numbered k)) r
 
 -- "`[1]` to `[4]`, or `[single]`, `[first]`, `[later]`, `[any]`": what follows `layout` or `variant`
-unfoldable pub index_of : Text → Index
+unfoldable pub index_of : Text → Option Index
 index_of w =
-    cond (same w []) index.Absent
-    (cond (same w (bytes "[single]")) index.Single
-    (cond (same w (bytes "[first]")) index.First
-    (cond (same w (bytes "[later]")) index.Later
-    (cond (same w (bytes "[any]")) index.Any
+    cond (same w []) (Some index.Absent)
+    (cond (same w (bytes "[single]")) (Some index.Single)
+    (cond (same w (bytes "[first]")) (Some index.First)
+    (cond (same w (bytes "[later]")) (Some index.Later)
+    (cond (same w (bytes "[any]")) (Some index.Any)
     (numbered_in w (up_from most_layouts 1))))))
 
 -- "one or more of model, layout, variant, option". "Only layout and variant take an index"
-unfoldable pub left_item : Text → Item
+unfoldable pub left_item : Text → Option Item
 left_item w =
-    cond (same w (bytes "model")) item.Model
-    (cond (same w (bytes "option")) item.Options
-    (cond (same (take 6 w) (bytes "layout")) (item.Layout (index_of (drop 6 w)))
-    (cond (same (take 7 w) (bytes "variant")) (item.Variant (index_of (drop 7 w)))
-    item.Unknown)))
+    cond (same w (bytes "model")) (Some item.Model)
+    (cond (same w (bytes "option")) (Some item.Options)
+    (cond (same (take 6 w) (bytes "layout")) (option_map item.Layout (index_of (drop 6 w)))
+    (cond (same (take 7 w) (bytes "variant")) (option_map item.Variant (index_of (drop 7 w)))
+    None)))
 
 -- "one or more of keycodes, symbols, types, compat, geometry": its number in the answer; 5 is none of these
 unfoldable pub component_of : Text → ℕ
@@ -52,20 +52,20 @@ component_of w =
     (cond (same w (bytes "geometry")) 4
     5))))
 
--- the column of an item, and its index if it is one that takes an index
-unfoldable pub columns_in : Item → List Column
-columns_in item.Model = column.Model ∷ []
-columns_in (item.Layout i) = column.Layout ∷ []
-columns_in (item.Variant i) = column.Variant ∷ []
-columns_in item.Options = column.Options ∷ []
-columns_in item.Unknown = []
+-- the column of an item, and its index if it is one that takes an index; a word that is no item has neither
+unfoldable pub columns_in : Option Item → List Column
+columns_in None = []
+columns_in (Some item.Model) = column.Model ∷ []
+columns_in (Some (item.Layout i)) = column.Layout ∷ []
+columns_in (Some (item.Variant i)) = column.Variant ∷ []
+columns_in (Some item.Options) = column.Options ∷ []
 
-unfoldable pub indexes_in : Item → List Index
-indexes_in item.Model = []
-indexes_in (item.Layout i) = i ∷ []
-indexes_in (item.Variant i) = i ∷ []
-indexes_in item.Options = []
-indexes_in item.Unknown = []
+unfoldable pub indexes_in : Option Item → List Index
+indexes_in None = []
+indexes_in (Some item.Model) = []
+indexes_in (Some (item.Layout i)) = i ∷ []
+indexes_in (Some (item.Variant i)) = i ∷ []
+indexes_in (Some item.Options) = []
 
 -- numbers to compare columns and indexes by
 unfoldable pub column_number : Column → ℕ
@@ -76,22 +76,15 @@ column_number column.Options = 4
 
 unfoldable pub index_number : Index → ℕ
 index_number index.Absent = 0
-index_number (index.Numbered k) = k
-index_number index.Single = 33
-index_number index.First = 34
-index_number index.Later = 35
-index_number index.Any = 36
-index_number index.Wrong = 37
+index_number index.Single = 1
+index_number index.First = 2
+index_number index.Later = 3
+index_number index.Any = 4
+index_number (index.Numbered k) = 5 + k
 
-unfoldable pub known_index : Index → Bool
-known_index i = not (eqb (index_number i) 37)
-
-unfoldable pub known_item : Item → Bool
-known_item item.Model = true
-known_item (item.Layout i) = known_index i
-known_item (item.Variant i) = known_index i
-known_item item.Options = true
-known_item item.Unknown = false
+unfoldable pub known_item : Option Item → Bool
+known_item None = false
+known_item (Some i) = true
 
 -- "None twice."
 unfoldable pub distinct : List ℕ → Bool
@@ -113,11 +106,11 @@ pub record Heading : Type 0 where
   pub index : Index
   pub components : List ℕ
 
-unfoldable pub heading_of : List Item → List ℕ → Heading
+unfoldable pub heading_of : List (Option Item) → List ℕ → Heading
 heading_of ls rs = record { columns = concat_map columns_in ls; index = first_index (concat_map indexes_in ls); components = rs }
 
 -- "an item unknown, on the wrong side or repeated; bad or unlike indexes" is refused as 7
-unfoldable pub good_items : List Item → List ℕ → Bool
+unfoldable pub good_items : List (Option Item) → List ℕ → Bool
 good_items ls rs =
     all_of known_item ls &&
     (all_of (λ c. ltb c 5) rs &&
@@ -131,4 +124,3 @@ has_word index.Single = true
 has_word index.First = true
 has_word index.Later = true
 has_word index.Any = true
-has_word index.Wrong = false

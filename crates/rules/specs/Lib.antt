@@ -6,8 +6,10 @@ pub mod Sections
 pub mod Faults
 pub mod Names
 pub mod Splitting
+pub mod Placed
 pub mod Checking
 pub mod Sets
+pub mod Sides
 pub mod Plain
 pub mod Held
 pub mod Keywords

@@ -6,7 +6,7 @@ use Rattle.rules.specs.declared.Present.{Present}
 use Rattle.rules.specs.Words.{is_equals, ordinary, left_word}
 use Rattle.rules.specs.Percent.{malformed}
 use Rattle.rules.specs.Entries.{Entry}
-use Rattle.rules.specs.Checking.{line_fault, present_after, names_after}
+use Rattle.rules.specs.Checking.{is_indexed, line_fault, present_after, names_after}
 
 -- nothing is refused of a rule's words: r right words are left; l left words, `=` and r right words are left
 unfoldable pub good_right : Bool → ℕ → Words → Bool
@@ -46,7 +46,7 @@ pub record RightRead (s : Text) (f : ℕ) (i : Bool) (from n e : ℕ) : Type 0 w
 pub record RuleRead (s : Text) (from : ℕ) (p : Present) (e : ℕ) : Type 0 where
   pub low : from < e
   pub high : e ≤ length s
-  pub good : good_left (eqb p.form 2) p.right p.left (left s from) ≡ true
+  pub good : good_left (is_indexed p.form) p.right p.left (left s from) ≡ true
   pub onto : (m : ℕ) → m ≤ from + 1 → ahead s from m ≡ follow s e (m + 1)
 
 -- under the heading p nothing is refused of a line, and nothing changes for those after it

@@ -1,102 +1,97 @@
 // What a split line is, and what a rule's words are held to.
-ghost use Rattle.std.specs.Prelude.{◌≡◌, ◌||◌, ◌≤◌, ◌<◌, ◌+◌, length, take, drop};
+ghost use Rattle.std.specs.Prelude.{◌≡◌, ◌≤◌, ◌+◌, take, drop};
 ghost use Rattle.text.specs.Bytes.{all_of};
+ghost use Rattle.text.specs.Told.{outcome_number};
 ghost use Rattle.rules.specs.Words.{left_word};
-ghost use Rattle.rules.specs.Percent.{malformed};
-ghost use Rattle.rules.specs.Checking.{right_fault};
-ghost use Rattle.rules.specs.Checking.{form_of, present_by, present_fault};
-ghost use Rattle.rules.specs.Splitting.{words_of, Placed};
+ghost use Rattle.rules.specs.Checking.{form_of, has_left, present_by, present_fault, right_fault};
+ghost use Rattle.rules.specs.Placed.{words_in};
 
-use super::headings::has_word;
 use super::percent::is_malformed;
-use super::sets::word;
+use super::placed::PlacedWords;
 use super::words::{is_equals, is_left_word, is_ordinary};
-use super::{Index, Present, SetHeading};
+use super::{Form, Index, Present, SetHeading};
+use text::faults::Fault;
 
 // The first n words may stand on a rule's left side.
-fn left_words(w: &[u8], places: &[usize], n: usize) -> bool
-    requires { Placed w.now places.now (words_of w.now) (length (words_of w.now)) × (n ≤ 10) × (n ≤ length (words_of w.now)) }
-    ensures { result ≡ all_of left_word (take n (words_of w.now)) }
+fn left_words(line: &PlacedWords, n: usize) -> bool
+    requires { (n ≤ 10) × (n ≤ line.now.count) }
+    ensures { result ≡ all_of left_word (take n (words_in line.now)) }
 {
-    let mut j: usize = 0;
-    while j < n {
-        if !is_left_word(word(w, places, j)) {
+    for j in 0..n {
+        if !is_left_word(line.word(j)) {
             return false;
         }
-        j += 1;
     }
     true
 }
 
-fn or_malformed(bad: bool, w: &[u8], indexed: bool) -> bool
-    ensures { result ≡ (bad || malformed indexed w.now) }
+// A rule's right words, from a number on: each is ordinary, and none has a malformed percent item.
+fn right_words(line: &PlacedWords, from: usize, indexed: bool) -> Result<(), Fault>
+    requires { (from ≤ line.now.count) × (line.now.count ≤ 10) }
+    ensures { outcome_number result ≡ right_fault indexed (drop from (words_in line.now)) }
 {
-    if bad {
-        return true;
-    }
-    is_malformed(w, indexed)
-}
-
-// The refusal of a rule's right words, from a number on: 6 where one is not ordinary, else 8 where one has a malformed percent item, or 0.
-fn right_fault(w: &[u8], places: &[usize], from: usize, count: usize, indexed: bool) -> usize
-    requires { Placed w.now places.now (words_of w.now) (length (words_of w.now)) × (from ≤ count) × (count ≤ 10) × (count ≡ length (words_of w.now)) }
-    ensures { result ≡ right_fault indexed (drop from (words_of w.now)) }
-{
-    let mut bad = false;
-    let mut j = from;
-    while j < count {
-        let x = word(w, places, j);
-        if !is_ordinary(x) {
-            return 6;
+    let mut malformed = false;
+    for j in from..line.count {
+        let word = line.word(j);
+        if !is_ordinary(word) {
+            return Err(Fault::BadLine);
         }
-        bad = or_malformed(bad, x, indexed);
-        j += 1;
+        malformed |= is_malformed(word, indexed);
     }
-    if bad {
-        return 8;
+    if malformed {
+        return Err(Fault::BadPercent);
     }
-    0
+    Ok(())
 }
 
-// The refusal of a rule under the present heading, 6 or 8, or 0.
-pub fn rule_fault(w: &[u8], places: &[usize], count: usize, p: Present) -> usize
-    requires { Placed w.now places.now (words_of w.now) (length (words_of w.now)) × (count ≡ length (words_of w.now)) × (p.left ≤ 4) × (p.right ≤ 5) }
-    ensures { result ≡ present_fault p (words_of w.now) }
+// There is a heading, and a rule has as many words as it asks for, with good left words and `=`.
+#[tactic(auto, using(crate::proofs::RuleFaults::absent_is), unfolding(crate::specs::Checking::has_left))]
+fn has_left(line: &PlacedWords, p: Present) -> bool
+    requires { (p.left ≤ 4) × (p.right ≤ 5) }
+    ensures { result ≡ has_left p (words_in line.now) }
 {
-    if p.form == 0 {
-        return 6;
+    if p.form == Form::Absent {
+        return false;
     }
-    let n = p.left;
-    if count != n + 1 + p.right {
-        return 6;
+    if line.count != p.left + 1 + p.right {
+        return false;
     }
-    if !left_words(w, places, n) {
-        return 6;
-    }
-    if !is_equals(word(w, places, n)) {
-        return 6;
-    }
-    right_fault(w, places, n + 1, count, p.form == 2)
+    left_words(line, p.left) && is_equals(line.word(p.left))
 }
 
-// What a heading's index asks of its rules: 2 with one of the four index words, else 1.
-fn form_of(i: Index) -> usize
-    ensures { result ≡ form_of i }
+// A rule under the present heading.
+pub fn rule_fault(line: &PlacedWords, p: Present) -> Result<(), Fault>
+    requires { (p.left ≤ 4) × (p.right ≤ 5) }
+    ensures { outcome_number result ≡ present_fault p (words_in line.now) }
 {
-    if has_word(i) {
-        return 2;
+    if !has_left(line, p) {
+        return Err(Fault::BadLine);
     }
-    1
+    right_words(line, p.left + 1, p.form == Form::Indexed)
 }
 
-// A set's heading, as it is carried on.
-pub fn present_by(h: SetHeading) -> Present
-    ensures { result ≡ present_by h }
-{
-    let index = h.index;
-    Present {
-        form: form_of(index),
-        left: h.left,
-        right: h.right,
+impl Index {
+    // What a heading with this index asks of its rules.
+    #[tactic(auto, unfolding(crate::specs::Checking::form_of))]
+    fn form(self) -> Form
+        ensures { result ≡ form_of self }
+    {
+        if self.has_word() {
+            return Form::Indexed;
+        }
+        Form::Plain
+    }
+}
+
+impl SetHeading {
+    // The heading, as it is carried on.
+    pub fn present(&self) -> Present
+        ensures { result ≡ present_by self.now }
+    {
+        Present {
+            form: self.index.form(),
+            left: self.columns.count,
+            right: self.components.count,
+        }
     }
 }

@@ -4,13 +4,20 @@
 pub mod headings;
 pub mod judge;
 pub mod lines;
+pub mod listing;
+pub mod older;
 pub mod percent;
+pub mod placed;
 pub mod plain;
 pub mod sets;
 pub mod words;
 
+use listing::Listing;
+use text::Spot;
+use text::faults::Fault;
+
 // A left column of a set.
-#[derive(Clone, Copy)]
+#[derive(Clone, Copy, PartialEq, Eq, Debug)]
 pub enum Column {
     Model,
     Layout,
@@ -18,8 +25,8 @@ pub enum Column {
     Options,
 }
 
-// The index of a layout or variant item of a heading; `Wrong` is none of document 01's.
-#[derive(Clone, Copy)]
+// The index of a layout or variant item of a heading.
+#[derive(Clone, Copy, PartialEq, Eq, Debug)]
 pub enum Index {
     Absent,
     Single,
@@ -27,20 +34,20 @@ pub enum Index {
     Later,
     Any,
     Numbered(usize),
-    Wrong,
 }
 
 // A left item of a heading.
-#[derive(Clone, Copy)]
+#[derive(Clone, Copy, PartialEq, Eq, Debug)]
 pub enum Item {
     Model,
     Layout(Index),
     Variant(Index),
     Options,
-    Unknown,
 }
 
-// Which layout or variant a percent item takes: the only one, that of the matched layout, or one by its number. `Wrong` is a `[` that opens no index.
+// Which layout or variant a percent item takes: the only one, that of the matched layout, or one by its number.
+// `Wrong` is a `[` that opens no index. This and the next two are no `Option`: a malformed item has a length of its own,
+// and whether it is refused is judged later.
 #[derive(Clone, Copy)]
 pub enum Which {
     Alone,
@@ -58,7 +65,8 @@ pub enum Variable {
     Unknown,
 }
 
-// A piece of a right-hand value: a byte as it stands, or what follows a percent sign. `Unclosed` is a parenthesis that does not close.
+// A piece of a right-hand value: a byte as it stands, or what follows a percent sign. `Unclosed` is a parenthesis that
+// does not close.
 #[derive(Clone, Copy)]
 pub enum Piece {
     Byte(u8),
@@ -69,67 +77,51 @@ pub enum Piece {
     Unclosed,
 }
 
-// What is counted of a line's words as they are read: all of them; those before the first `=`; whether it was met, and another after it; whether all
-// from the third on are ordinary.
+// What is counted of a line's words as they are read: all of them; those before the first `=`, if it was met; and
+// whether another was met after it.
 #[derive(Clone, Copy)]
 pub struct Tally {
     pub count: usize,
-    pub first: usize,
-    pub seen: bool,
+    pub equals: Option<usize>,
     pub again: bool,
-    pub plain: bool,
 }
 
-// A line, split: its tally, the lowest refusal of its words or 0, the start of the next line and that line's number.
+// A line, split: its tally, the lowest refusal of its words, and the start of the next line with that line's number.
 #[derive(Clone, Copy)]
 pub struct Split {
     pub tally: Tally,
-    pub fault: usize,
-    pub next: usize,
-    pub line: usize,
+    pub fault: Option<Fault>,
+    pub next: Spot,
 }
 
-// What a rule is held to by the heading before it: the numbers of its left and right words, and the heading's form: 0 there is none, 1 a set's, 2 a
-// set's with one of the four index words, under which `%i` may stand.
+// The heading before a rule: none, a set's, or a set's with one of the four index words, under which `%i` may stand.
+#[derive(Clone, Copy, PartialEq, Eq, Debug)]
+pub enum Form {
+    Absent,
+    Plain,
+    Indexed,
+}
+
+// What a rule is held to by the heading before it, with the numbers of its left and right words. That they are few is no
+// ghost field: the definitions make a `Present` of any heading.
 #[derive(Clone, Copy)]
 pub struct Present {
-    pub form: usize,
+    pub form: Form,
     pub left: usize,
     pub right: usize,
 }
 
 // No set has begun: a rule here is refused.
 pub const NO_HEADING: Present = Present {
-    form: 0,
+    form: Form::Absent,
     left: 0,
     right: 0,
 };
 
-// Numbers kept in order; `good` as long as none is repeated and there are at most five.
-#[derive(Clone, Copy)]
-pub struct Listing {
-    pub good: bool,
-    pub count: usize,
-    pub items: [usize; 5],
-}
-
-// The left items of a heading as they are read: whether each is known and the indexes are alike, the columns by their numbers, whether an index was
-// met, and the first one.
-#[derive(Clone, Copy)]
-pub struct LeftSide {
-    pub good: bool,
-    pub columns: Listing,
-    pub met: bool,
-    pub index: Index,
-}
-
-// The heading of a set: its columns by their numbers, its index, its components by theirs. `left` and `right` count them.
+// The heading of a set: its columns, its index, and its components by their numbers.
 #[derive(Clone, Copy)]
 pub struct SetHeading {
-    pub good: bool,
-    pub left: usize,
-    pub columns: [usize; 5],
+    pub columns: Listing<Column, 4>,
     pub index: Index,
-    pub right: usize,
-    pub components: [usize; 5],
+    pub components: Listing<usize, 5>,
 }

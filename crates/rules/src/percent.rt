@@ -1,186 +1,158 @@
 // What follows a percent sign in a right-hand value, and whether a value is malformed.
-ghost use Rattle.std.specs.Prelude.{◌≡◌, drop, get_or};
+ghost use Rattle.std.specs.Prelude.{◌≡◌, drop};
 ghost use Rattle.rules.specs.Percent.{which_of, variable_of, which_length, variable_length, in_parens, piece_after, piece_length, PlainTo};
 ghost use Rattle.rules.specs.Percent.{bad_which, bad_variable, bad_piece, malformed};
 
+pub use super::older::{byte_at, piece_length};
 use super::{Piece, Variable, Which};
 
-// The byte at an index of a text, or 0 beyond its end.
-pub fn byte_at(t: &[u8], i: usize) -> u8
-    ensures { result ≡ get_or t.now i 0 }
-{
-    if i < t.len() {
-        return t[i];
+impl Which {
+    // How many bytes an index takes.
+    #[tactic(auto, unfolding(crate::specs::Percent::which_length))]
+    pub fn length(self) -> usize
+        ensures { result ≡ which_length self }
+    {
+        match self {
+            Which::Alone | Which::Wrong => 0,
+            Which::Numbered(_) => 3,
+            Which::Matched => 4,
+        }
     }
-    0
+
+    // Whether it is malformed, `indexed` telling whether the heading has an index word.
+    #[tactic(auto, unfolding(crate::specs::Percent::bad_which))]
+    fn is_bad(self, indexed: bool) -> bool
+        ensures { result ≡ bad_which indexed self }
+    {
+        match self {
+            Which::Alone | Which::Numbered(_) => false,
+            Which::Matched => !indexed,
+            Which::Wrong => true,
+        }
+    }
+}
+
+impl Variable {
+    // How many bytes a variable takes.
+    #[tactic(auto, using(crate::proofs::Pieces::which_small), unfolding(crate::specs::Percent::variable_length))]
+    pub fn length(self) -> usize
+        ensures { result ≡ variable_length self }
+    {
+        match self {
+            Variable::Model => 1,
+            Variable::Layout(which) | Variable::Variant(which) => 1 + which.length(),
+            Variable::Unknown => 0,
+        }
+    }
+
+    // Whether it is malformed: none after the percent sign, or a bad index.
+    #[tactic(auto, unfolding(crate::specs::Percent::bad_variable))]
+    fn is_bad(self, indexed: bool) -> bool
+        ensures { result ≡ bad_variable indexed self }
+    {
+        match self {
+            Variable::Model => false,
+            Variable::Layout(which) | Variable::Variant(which) => which.is_bad(indexed),
+            Variable::Unknown => true,
+        }
+    }
+}
+
+impl Piece {
+    // How many bytes after the percent sign an item takes.
+    #[tactic(auto, using(crate::proofs::Pieces::variable_small), unfolding(crate::specs::Percent::piece_length))]
+    pub fn length(self) -> usize
+        ensures { result ≡ piece_length self }
+    {
+        match self {
+            Piece::Byte(_) | Piece::Unclosed => 0,
+            Piece::Number => 1,
+            Piece::Bare(variable) => variable.length(),
+            Piece::Parens(variable) => 2 + variable.length(),
+            Piece::Prefixed { sign: _, variable } => 1 + variable.length(),
+        }
+    }
+
+    // Whether it is malformed, `indexed` telling whether the heading has an index word.
+    #[tactic(auto, unfolding(crate::specs::Percent::bad_piece))]
+    pub fn is_bad(self, indexed: bool) -> bool
+        ensures { result ≡ bad_piece indexed self }
+    {
+        match self {
+            Piece::Byte(_) => false,
+            Piece::Number => !indexed,
+            Piece::Bare(variable) | Piece::Parens(variable) => variable.is_bad(indexed),
+            Piece::Prefixed { sign: _, variable } => variable.is_bad(indexed),
+            Piece::Unclosed => true,
+        }
+    }
+}
+
+// The index that a text begins with, just after an `l` or `v`.
+#[tactic(auto, using(crate::proofs::Pieces::which_reads, crate::proofs::Pieces::matched_reads, std::proofs::lemmas::Bool::Decides::nat_tests))]
+fn which_of(t: &[u8]) -> Which
+    ensures { result ≡ which_of t.now }
+{
+    if t.starts_with(b"[%i]") {
+        return Which::Matched;
+    }
+    match t {
+        [b'[', d @ b'1'..=b'4', b']', ..] => Which::Numbered(usize::from(*d - b'0')),
+        [b'[', ..] => Which::Wrong,
+        _ => Which::Alone,
+    }
+}
+
+// The variable that a text begins with.
+#[tactic(auto, using(crate::proofs::Pieces::variable_reads, crate::proofs::Pieces::rest_is))]
+fn variable_of(t: &[u8]) -> Variable
+    ensures { result ≡ variable_of t.now }
+{
+    match t {
+        [b'm', ..] => Variable::Model,
+        [b'l', rest @ ..] => Variable::Layout(which_of(rest)),
+        [b'v', rest @ ..] => Variable::Variant(which_of(rest)),
+        _ => Variable::Unknown,
+    }
+}
+
+// The item in parentheses, behind the one that opens.
+#[tactic(auto, using(crate::proofs::Pieces::parens_reads))]
+fn in_parens(t: &[u8]) -> Piece
+    ensures { result ≡ in_parens t.now }
+{
+    let variable = variable_of(t);
+    match t.get(variable.length()) {
+        Some(b')') => Piece::Parens(variable),
+        _ => Piece::Unclosed,
+    }
 }
 
 // The bytes of a word from `at` on; none beyond its end.
 pub fn tail<'a>(w: &'a [u8], at: usize) -> &'a [u8]
     ensures { result.now ≡ drop at w.now }
 {
-    if at <= w.len() {
-        return &w[at..];
-    }
-    &w[0..0]
-}
-
-// A byte's value as a `usize`.
-pub fn wide(b: u8) -> usize
-    ensures { result ≡ b }
-{
-    b as usize
-}
-
-// The index at `at`, just after an `l` or `v`.
-fn which_of(w: &[u8], at: usize) -> Which
-    ensures { result ≡ which_of (drop at w.now) }
-{
-    let t = tail(w, at);
-    if byte_at(t, 0) != b'[' {
-        return Which::Alone;
-    }
-    let b = byte_at(t, 1);
-    match b {
-        b'%' => {
-            if byte_at(t, 2) != b'i' {
-                return Which::Wrong;
-            }
-            if byte_at(t, 3) != b']' {
-                return Which::Wrong;
-            }
-            Which::Matched
-        }
-        b'1'..=b'4' => {
-            let close = byte_at(t, 2);
-            if close != b']' {
-                return Which::Wrong;
-            }
-            Which::Numbered(wide(b - b'0'))
-        }
-        _ => Which::Wrong,
-    }
-}
-
-// The variable at `at`.
-fn variable_of(w: &[u8], at: usize) -> Variable
-    ensures { result ≡ variable_of (drop at w.now) }
-{
-    let t = tail(w, at);
-    match byte_at(t, 0) {
-        b'm' => Variable::Model,
-        b'l' => Variable::Layout(which_of(t, 1)),
-        b'v' => Variable::Variant(which_of(t, 1)),
-        _ => Variable::Unknown,
-    }
-}
-
-// How many bytes an index takes.
-fn which_length(x: Which) -> usize
-    ensures { result ≡ which_length x }
-{
-    match x {
-        Which::Alone => 0,
-        Which::Matched => 4,
-        Which::Numbered(_) => 3,
-        Which::Wrong => 0,
-    }
-}
-
-// How many bytes a variable takes.
-fn variable_length(v: Variable) -> usize
-    ensures { result ≡ variable_length v }
-{
-    match v {
-        Variable::Model => 1,
-        Variable::Layout(x) => 1 + which_length(x),
-        Variable::Variant(x) => 1 + which_length(x),
-        Variable::Unknown => 0,
-    }
-}
-
-// The item in parentheses whose variable is at `at`.
-fn in_parens(w: &[u8], at: usize) -> Piece
-    ensures { result ≡ in_parens (drop at w.now) }
-{
-    let t = tail(w, at);
-    let v = variable_of(t, 0);
-    if byte_at(t, variable_length(v)) != b')' {
-        return Piece::Unclosed;
-    }
-    Piece::Parens(v)
+    w.get(at..).unwrap_or(&[])
 }
 
 // The item whose percent sign stands just before `at`.
+#[tactic(auto, using(crate::proofs::Pieces::piece_reads, crate::proofs::Pieces::rest_is))]
 pub fn piece_after(w: &[u8], at: usize) -> Piece
     ensures { result ≡ piece_after (drop at w.now) }
 {
     let t = tail(w, at);
-    let b = byte_at(t, 0);
-    match b {
-        b'i' => Piece::Number,
-        b'+' | b'|' | b'-' | b'_' => Piece::Prefixed {
-            sign: b,
-            variable: variable_of(t, 1),
+    match t {
+        [b'i', ..] => Piece::Number,
+        [sign @ (b'+' | b'|' | b'-' | b'_'), rest @ ..] => Piece::Prefixed {
+            sign: *sign,
+            variable: variable_of(rest),
         },
-        b'(' => in_parens(t, 1),
-        _ => Piece::Bare(variable_of(t, 0)),
+        [b'(', rest @ ..] => in_parens(rest),
+        _ => Piece::Bare(variable_of(t)),
     }
 }
 
-// How many bytes after the percent sign an item takes.
-pub fn piece_length(p: Piece) -> usize
-    ensures { result ≡ piece_length p }
-{
-    match p {
-        Piece::Byte(_) => 0,
-        Piece::Number => 1,
-        Piece::Bare(v) => variable_length(v),
-        Piece::Parens(v) => 2 + variable_length(v),
-        Piece::Prefixed { sign: _, variable } => 1 + variable_length(variable),
-        Piece::Unclosed => 0,
-    }
-}
-
-// Whether an index is malformed, `indexed` telling whether the heading has an index word.
-fn bad_which(indexed: bool, x: Which) -> bool
-    ensures { result ≡ bad_which indexed x }
-{
-    match x {
-        Which::Alone => false,
-        Which::Matched => !indexed,
-        Which::Numbered(_) => false,
-        Which::Wrong => true,
-    }
-}
-
-// Whether a variable is malformed: none after the percent sign, or a bad index.
-fn bad_variable(indexed: bool, v: Variable) -> bool
-    ensures { result ≡ bad_variable indexed v }
-{
-    match v {
-        Variable::Model => false,
-        Variable::Layout(x) => bad_which(indexed, x),
-        Variable::Variant(x) => bad_which(indexed, x),
-        Variable::Unknown => true,
-    }
-}
-
-// Whether an item is malformed.
-fn bad_piece(indexed: bool, p: Piece) -> bool
-    ensures { result ≡ bad_piece indexed p }
-{
-    match p {
-        Piece::Byte(_) => false,
-        Piece::Number => !indexed,
-        Piece::Bare(v) => bad_variable(indexed, v),
-        Piece::Parens(v) => bad_variable(indexed, v),
-        Piece::Prefixed { sign: _, variable } => bad_variable(indexed, variable),
-        Piece::Unclosed => true,
-    }
-}
-
-// A place up to which no percent sign stands: four bytes a turn.
+// A place up to which no percent sign stands. Four bytes a turn: `position` takes about half as long again.
 fn skip_plain(w: &[u8]) -> usize
     ensures { PlainTo w.now result }
 {
@@ -214,11 +186,11 @@ pub fn is_malformed(w: &[u8], indexed: bool) -> bool
             continue;
         }
         i += 1;
-        let p = piece_after(w, i);
-        if bad_piece(indexed, p) {
+        let piece = piece_after(w, i);
+        if piece.is_bad(indexed) {
             return true;
         }
-        i += piece_length(p);
+        i += piece.length();
     }
     false
 }

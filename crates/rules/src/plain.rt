@@ -1,109 +1,81 @@
-// Lines that are read at one go: lines without words, and rules whose words are plain and of which nothing is refused. Each function here gives the end of what
-// it reads, or 0 where that is for the reader of all lines; 0 says nothing, and is right wherever it is given.
-ghost use Rattle.std.specs.Prelude.{◌≡◌, ◌<◌};
-ghost use Rattle.text.specs.Reading.{Table, Fenced};
+// Lines that are read at one go: rules whose words are plain and of which nothing is refused. Each function here gives
+// the end of what it reads, or none where that is for the reader of all lines; none says nothing, and is right wherever
+// it is given.
+ghost use Rattle.std.specs.Prelude.{◌<◌, IfSome};
 ghost use Rattle.rules.specs.Plain.{LeftRead, RightWord, RightRead, RuleRead};
 
-use super::Present;
 use super::percent::is_malformed;
 use super::words::{is_left_word, is_ordinary};
-use text::Plain;
-use text::reader::{byte_word, feed_end, plain_word, skip_fast, value_word};
+use super::{Form, Present};
+use text::source::{Source, feed_end};
 
 // The left words of a rule, n of them.
-fn left_end(s: &[u8], t: &[u8; 512], fence: usize, from: usize, n: usize) -> usize
-    requires { (from < fence) × (Table t.now × Fenced s.now fence) }
-    ensures { (result ≡ 0 → ⊥) → LeftRead s.now fence from n result }
+fn left_end(src: &Source, from: usize, n: usize) -> Option<usize>
+    requires { from < src.now.fence }
+    ensures { IfSome result (LeftRead src.now.bytes.now src.now.fence from n) }
 {
     let mut at = from;
-    let mut j = n;
-    while 0 < j {
-        match plain_word(s, t, fence, at) {
-            Plain::Word { start, end } => {
-                if !is_left_word(&s[start..end]) {
-                    return 0;
-                }
-                at = end;
-                j -= 1;
-            }
-            Plain::Other => {
-                return 0;
-            }
+    for _ in 0..n {
+        let word = src.plain_word(at)?;
+        if !is_left_word(src.word(word.start, word.end)) {
+            return None;
         }
+        at = word.end;
     }
-    at
+    Some(at)
 }
 
 // A right word with percent signs, or one that begins with a slash.
-fn percent_word(s: &[u8], t: &[u8; 512], fence: usize, from: usize, indexed: bool) -> usize
-    requires { (from < fence) × (Table t.now × Fenced s.now fence) }
-    ensures { (result ≡ 0 → ⊥) → RightWord s.now fence indexed from result }
+fn percent_word(src: &Source, from: usize, indexed: bool) -> Option<usize>
+    requires { from < src.now.fence }
+    ensures { IfSome result (RightWord src.now.bytes.now src.now.fence indexed from) }
 {
-    match plain_word(s, t, fence, from) {
-        Plain::Word { start, end } => {
-            if !is_ordinary(&s[start..end]) {
-                return 0;
-            }
-            if is_malformed(&s[start..end], indexed) {
-                return 0;
-            }
-            end
-        }
-        Plain::Other => 0,
+    let place = src.plain_word(from)?;
+    let word = src.word(place.start, place.end);
+    if !is_ordinary(word) {
+        return None;
     }
+    if is_malformed(word, indexed) {
+        return None;
+    }
+    Some(place.end)
 }
 
 // A right word; `indexed` tells whether the heading has an index word.
-fn right_word(s: &[u8], t: &[u8; 512], fence: usize, from: usize, indexed: bool) -> usize
-    requires { (from < fence) × (Table t.now × Fenced s.now fence) }
-    ensures { (result ≡ 0 → ⊥) → RightWord s.now fence indexed from result }
+fn right_word(src: &Source, from: usize, indexed: bool) -> Option<usize>
+    requires { from < src.now.fence }
+    ensures { IfSome result (RightWord src.now.bytes.now src.now.fence indexed from) }
 {
-    match value_word(s, t, fence, from) {
-        Plain::Word { start, end } => {
-            if !is_ordinary(&s[start..end]) {
-                return 0;
+    match src.value_word(from) {
+        Some(place) => {
+            if !is_ordinary(src.word(place.start, place.end)) {
+                return None;
             }
-            end
+            Some(place.end)
         }
-        Plain::Other => percent_word(s, t, fence, from, indexed),
+        None => percent_word(src, from, indexed),
     }
 }
 
 // The right words of a rule, n of them.
-fn right_end(s: &[u8], t: &[u8; 512], fence: usize, from: usize, n: usize, indexed: bool) -> usize
-    requires { (from < fence) × (Table t.now × Fenced s.now fence) }
-    ensures { (result ≡ 0 → ⊥) → RightRead s.now fence indexed from n result }
+fn right_end(src: &Source, from: usize, n: usize, indexed: bool) -> Option<usize>
+    requires { from < src.now.fence }
+    ensures { IfSome result (RightRead src.now.bytes.now src.now.fence indexed from n) }
 {
     let mut at = from;
-    let mut j = n;
-    while 0 < j {
-        let e = right_word(s, t, fence, at, indexed);
-        if e == 0 {
-            return 0;
-        }
-        at = e;
-        j -= 1;
+    for _ in 0..n {
+        at = right_word(src, at, indexed)?;
     }
-    at
+    Some(at)
 }
 
 // A rule under the heading p, from its first word on.
-pub fn rule_end(s: &[u8], t: &[u8; 512], fence: usize, from: usize, p: Present) -> usize
-    requires { (from < fence) × (Table t.now × Fenced s.now fence) }
-    ensures { (result ≡ 0 → ⊥) → RuleRead s.now from p result }
+pub fn rule_end(src: &Source, from: usize, p: Present) -> Option<usize>
+    requires { from < src.now.fence }
+    ensures { IfSome result (RuleRead src.now.bytes.now from p) }
 {
-    let a = left_end(s, t, fence, from, p.left);
-    if a == 0 {
-        return 0;
-    }
-    let c = byte_word(s, t, fence, a, b'=');
-    if c == 0 {
-        return 0;
-    }
-    let b = right_end(s, t, fence, c, p.right, p.form == 2);
-    if b == 0 {
-        return 0;
-    }
-    let e = skip_fast(s, t, fence, b);
-    feed_end(s, e)
+    let left = left_end(src, from, p.left)?;
+    let equals = src.byte_word(left, b'=')?;
+    let right = right_end(src, equals, p.right, p.form == Form::Indexed)?;
+    feed_end(src.bytes, src.skip_blanks(right))
 }

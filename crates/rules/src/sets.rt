@@ -1,216 +1,88 @@
 // A set heading, read from the words of a split line.
-ghost use Rattle.std.specs.Prelude.{◌≡◌, [], map, ◌&&◌, ◌+◌, ◌<◌, ◌≤◌, length, take, get_or, eqb};
-ghost use Rattle.text.specs.Bytes.{any_of};
+ghost use Rattle.std.specs.Prelude.{◌≡◌, ◌≤◌, ◌+◌, ◌++◌, ◌∷◌, [], List, Option, map, length};
 ghost use Rattle.rules.specs.Headings.{left_item, component_of};
 ghost use Rattle.rules.specs.Entries.{before, after};
-ghost use Rattle.rules.specs.Splitting.{words_of, Placed};
-ghost use Rattle.rules.specs.Sets.{nothing_listed, added, added_component, added_components, no_items, good_index, with_column, with_indexed, with_item, with_items, IsSet};
+ghost use Rattle.rules.specs.Placed.{words_in};
+ghost use Rattle.rules.specs.Sets.{IsSet};
+ghost use Rattle.rules.specs.declared.Item.{Item};
+ghost use Rattle.rules.specs.Sides.{LeftHeld, LeftOf, RightOf};
 
-use super::headings::{component_of, index_number, left_item};
-use super::{Index, Item, LeftSide, Listing, SetHeading};
+use super::headings::{component_of, left_item};
+use super::listing::Listing;
+use super::placed::PlacedWords;
+use super::{Column, Index, Item, SetHeading};
 
-// The j-th word of a line, of the first ten.
-pub fn word<'a>(w: &'a [u8], places: &[usize], j: usize) -> &'a [u8]
-    requires { Placed w.now places.now (words_of w.now) (length (words_of w.now)) × (j < 10) × (j < length (words_of w.now)) }
-    ensures { result.now ≡ get_or (words_of w.now) j [] }
-{
-    let start = places[2 * j];
-    let end = places[2 * j + 1];
-    &w[start..end]
+// The left items of a heading as they are read: their columns, and the first index.
+#[derive(Clone, Copy)]
+pub struct LeftSide {
+    pub columns: Listing<Column, 4>,
+    pub index: Option<Index>,
 }
 
-// Whether a number is one of the first n.
-fn is_listed(items: [usize; 5], n: usize, x: usize) -> bool
-    requires { n ≤ 5 }
-    ensures { result ≡ any_of (eqb x) (take n items) }
-{
-    let mut i: usize = 0;
-    while i < n {
-        if x == items[i] {
-            return true;
-        }
-        i += 1;
-    }
-    false
-}
-
-pub fn add(l: Listing, x: usize) -> Listing
-    ensures { result ≡ added l x }
-{
-    let n = l.count;
-    let items = l.items;
-    let mut q = l;
-    if 5 <= n {
-        q.good = false;
-        return q;
-    }
-    if is_listed(items, n, x) {
-        q.good = false;
-        return q;
-    }
-    q.items[n] = x;
-    q.count = n + 1;
-    q
-}
-
-fn add_component(l: Listing, c: usize) -> Listing
-    ensures { result ≡ added_component l c }
-{
-    if c < 5 {
-        return add(l, c);
-    }
-    let mut q = l;
-    q.good = false;
-    q
-}
-
-// Whether the items are good so far, and an index with them: known, and alike the first one.
-fn is_good_index(s: LeftSide, i: Index) -> bool
-    ensures { result ≡ good_index s i }
-{
-    if !s.good {
-        return false;
-    }
-    let n = index_number(i);
-    if n == 37 {
-        return false;
-    }
-    if s.met {
-        let first = s.index;
-        return index_number(first) == n;
-    }
-    true
-}
-
-fn add_column(s: LeftSide, k: usize) -> LeftSide
-    ensures { result ≡ with_column s k }
-{
-    let columns = add(s.columns, k);
-    let index = s.index;
-    LeftSide {
-        good: s.good,
-        columns,
-        met: s.met,
-        index,
-    }
-}
-
-fn add_indexed(s: LeftSide, k: usize, i: Index) -> LeftSide
-    ensures { result ≡ with_indexed s k i }
-{
-    let good = is_good_index(s, i);
-    let columns = add(s.columns, k);
-    if s.met {
-        let index = s.index;
-        return LeftSide {
-            good,
-            columns,
-            met: true,
-            index,
-        };
-    }
-    LeftSide {
-        good,
-        columns,
-        met: true,
-        index: i,
-    }
-}
-
-fn add_item(s: LeftSide, x: Item) -> LeftSide
-    ensures { result ≡ with_item s x }
-{
-    match x {
-        Item::Model => add_column(s, 1),
-        Item::Layout(i) => add_indexed(s, 2, i),
-        Item::Variant(i) => add_indexed(s, 3, i),
-        Item::Options => add_column(s, 4),
-        Item::Unknown => {
-            let mut q = s;
-            q.good = false;
-            q
+impl LeftSide {
+    // With an item more; none where its column is there, or its index is unlike the first.
+    fn with(&self, item: Item) -> Option<LeftSide>
+        ensures { (ls : List (Option Item)) → LeftHeld ls self.now → LeftOf (ls ++ (Some item ∷ [])) result }
+    {
+        let columns = self.columns.with(item.column())?;
+        match (self.index, item.index()) {
+            (Some(first), Some(index)) => {
+                let alike = first == index;
+                if !alike {
+                    return None;
+                }
+                Some(LeftSide {
+                    columns,
+                    index: Some(first),
+                })
+            }
+            (Some(first), None) => Some(LeftSide {
+                columns,
+                index: Some(first),
+            }),
+            (None, index) => Some(LeftSide { columns, index }),
         }
     }
 }
 
-fn left_side(w: &[u8], places: &[usize], first: usize) -> LeftSide
-    requires { Placed w.now places.now (words_of w.now) (length (words_of w.now))
-        × (first ≡ length (before (words_of w.now)))
-        × (first ≤ 10) }
-    ensures { result ≡ with_items no_items (map left_item (before (words_of w.now))) }
+fn left_side(line: &PlacedWords, first: usize) -> Option<LeftSide>
+    requires { (first ≡ length (before (words_in line.now))) × (line.now.count ≤ 10) }
+    ensures { LeftOf (map left_item (before (words_in line.now))) result }
 {
-    let columns = Listing {
-        good: true,
-        count: 0,
-        items: [0; 5],
+    let mut side = LeftSide {
+        columns: Listing::none(Column::Model),
+        index: None,
     };
-    let mut s = LeftSide {
-        good: true,
-        columns,
-        met: false,
-        index: Index::Absent,
-    };
-    let mut i: usize = 0;
-    while i < first {
-        s = add_item(s, left_item(word(w, places, i)));
-        i += 1;
+    for j in 0..first {
+        side = side.with(left_item(line.word(j))?)?;
     }
-    s
+    Some(side)
 }
 
-fn right_side(w: &[u8], places: &[usize], from: usize, count: usize) -> Listing
-    requires { Placed w.now places.now (words_of w.now) (length (words_of w.now))
-        × (from ≡ length (before (words_of w.now)) + 1)
-        × (count ≡ length (words_of w.now))
-        × (count ≤ 10) }
-    ensures { result ≡ added_components nothing_listed (map component_of (after (words_of w.now))) }
+fn right_side(line: &PlacedWords, from: usize) -> Option<Listing<usize, 5>>
+    requires { (from ≡ length (before (words_in line.now)) + 1) × (line.now.count ≤ 10) }
+    ensures { RightOf (map component_of (after (words_in line.now))) result }
 {
-    let mut l = Listing {
-        good: true,
-        count: 0,
-        items: [0; 5],
-    };
-    let mut i = from;
-    while i < count {
-        l = add_component(l, component_of(word(w, places, i)));
-        i += 1;
+    let mut components = Listing::none(0);
+    for j in from..line.count {
+        components = components.with(component_of(line.word(j))?)?;
     }
-    l
+    Some(components)
 }
 
-fn is_good(l: LeftSide, r: Listing) -> bool
-    ensures { result ≡ (l.good && (l.columns.good && r.good)) }
+// The heading of a line that is split, `first` words standing before the first `=`.
+pub fn read_set(line: &PlacedWords, first: usize) -> Option<SetHeading>
+    requires { first ≡ length (before (words_in line.now)) }
+    ensures { IsSet (words_in line.now) result }
 {
-    if l.good {
-        if l.columns.good {
-            return r.good;
-        }
-        return false;
+    if line.places.len() < line.count {
+        return None;
     }
-    false
-}
-
-// The heading of a line that is split: `first` words before the first `=`, `count` in all.
-pub fn read_set(w: &[u8], places: &[usize], first: usize, count: usize) -> SetHeading
-    requires { Placed w.now places.now (words_of w.now) (length (words_of w.now))
-        × (first ≡ length (before (words_of w.now)))
-        × (count ≡ length (words_of w.now))
-        × (count ≤ 10) }
-    ensures { IsSet (words_of w.now) result }
-{
-    let l = left_side(w, places, first);
-    let r = right_side(w, places, first + 1, count);
-    let good = is_good(l, r);
-    let listed = l.columns;
-    let columns = listed.items;
-    let index = l.index;
-    let components = r.items;
-    SetHeading {
-        good,
-        left: listed.count,
-        columns,
-        index,
-        right: r.count,
+    let left = left_side(line, first)?;
+    let components = right_side(line, first + 1)?;
+    Some(SetHeading {
+        columns: left.columns,
+        index: left.index.unwrap_or(Index::Absent),
         components,
-    }
+    })
 }

@@ -9,6 +9,7 @@ use std::io::{Read, Result};
 pub fn read_full<R: Read>(reader: &mut R, buf: &mut [u8]) -> Result<usize>
     ensures { ReadsAtMost result buf.new }
 {
+    // Each read says how far it came. std's read_exact gives no count at the input's end; its copy has a buffer of 8 KiB.
     let mut done = 0;
     while done < buf.len() {
         let n = reader.read(&mut buf[done..])?;

@@ -1,17 +1,24 @@
 -- What the kinds of bytes mean for the marks.
-use Prim.Native.Nat.{ℕ, ◌≤◌}
+use Prim.Native.Nat.{ℕ, ◌≤◌, ◌<◌}
 use native.Mathlib.Omega.{arith}
-use mathlib.Core.Path.{◌≡◌, refl, sym, ◌∙◌}
+use mathlib.Core.Path.{◌≡◌, refl, sym, ◌∙◌, subst}
 use mathlib.Core.Logic.{◌⊎◌, inl, inr, ⊎_elim}
 use mathlib.Core.Bool.{Bool, true, false, not, ◌||◌, ◌&&◌, cond}
-use borrow.Author.Tests.{ne_eqb, eqb-true, eqb-false, ltb-false, le-leb, leb-true}
-use lib.Dec.{eqb, ltb, leb}
+use borrow.Author.Tests.{ne_eqb, eqb-true, eqb-false, ltb-false}
+use lib.Dec.{eqb, ltb}
 use Rattle.text.specs.declared.Class.TheVariants.{Blank, Join, Slashes, Bang, Other}
 use Rattle.text.specs.declared.Place.TheVariants.{Space, Word}
 use Rattle.text.specs.Marks.{ends_line, class_of, char, at_other}
 use Rattle.text.specs.Words.{bad_byte}
-use Rattle.text.specs.Reading.{wordly, in_word, kind_of, begins_plain, ends_plain}
-use Rattle.text.proofs.Lists.{no}
+use Rattle.text.specs.declared.kinds.Kind.{Kind}
+use Rattle.text.specs.declared.kinds.Kind.TheVariants as kind
+use Rattle.text.specs.Kinds.{kind_of, rank, blank, begins_kind, begins_plain, ends_plain}
+use Rattle.text.specs.Reading.{wordly, in_word, kind_of as kind_number}
+use Rattle.text.proofs.Lists.{no, or_cases}
+use Rattle.text.proofs.Olds.{slash_number, bad_number}
+
+pub differ : (b k m : ℕ) → eqb k m ≡ false → b ≡ k → b ≡ m → ⊥
+differ b k m h e f = eqb-false k m h (sym e ∙ f)
 
 pub record Plain (b : ℕ) : Type 0 where
   pub least : 33 ≤ b
@@ -78,122 +85,77 @@ plain_in_word b c d h =
     go false true false = refl
     go false false v = refl
 
-abbrev pub pick : Bool → Bool → Bool → Bool → Bool → Bool → ℕ
-pick t u v w x y = cond t 1 (cond u 1 (cond v 2 (cond w (cond y 4 3) (cond x 3 0))))
+-- what the kind of a byte says of it
+abbrev pub Means : ℕ → Kind → Type 0
+Means b kind.Plain = (bad_byte b ≡ false) × (b ≡ 47 → ⊥) × (b ≡ 37 → ⊥)
+Means b kind.Slash = b ≡ 47
+Means b kind.Percent = b ≡ 37
+Means b kind.Other = bad_byte b ≡ true
 
--- the kind of CR is its own
-pub kind_return : kind_of 13 ≡ 4
-unfolding kind_of bad_byte
-kind_return = refl
-
-pub kind_four : (b : ℕ) → kind_of b ≡ 4 → b ≡ 13
+pub means : (b : ℕ) → Means b (kind_of b)
 unfolding kind_of
-kind_four b h = go (eqb b 32) (eqb b 9) (eqb b 10) (bad_byte b) (eqb b 47) (eqb b 13) refl h
+means b = go (bad_byte b) (eqb b 47) (eqb b 37) refl refl refl
   where
-    go : (t u v w x y : Bool) → eqb b 13 ≡ y → pick t u v w x y ≡ 4 → b ≡ 13
-    go true u v w x y p e = absurd (eqb-false 1 4 refl e)
-    go false true v w x y p e = absurd (eqb-false 1 4 refl e)
-    go false false true w x y p e = absurd (eqb-false 2 4 refl e)
-    go false false false true x true p e = eqb-true b 13 p
-    go false false false true x false p e = absurd (eqb-false 3 4 refl e)
-    go false false false false true y p e = absurd (eqb-false 3 4 refl e)
-    go false false false false false y p e = absurd (eqb-false 0 4 refl e)
+    go : (t u v : Bool) → bad_byte b ≡ t → eqb b 47 ≡ u → eqb b 37 ≡ v → Means b (cond t kind.Other (cond u kind.Slash (cond v kind.Percent kind.Plain)))
+    go true u v p q r = p
+    go false true v p q r = eqb-true _ _ q
+    go false false true p q r = eqb-true _ _ r
+    go false false false p q r = (p, eqb-false _ _ q, eqb-false _ _ r)
 
-pub kind_one : (b c d : ℕ) → kind_of b ≡ 1 → (Blank ≡ class_of b c d) × (eqb b 10 ≡ false)
-unfolding kind_of class_of
-kind_one b c d h = go (eqb b 32) (eqb b 9) (eqb b 10) (bad_byte b) (eqb b 47) (eqb b 13) refl refl refl h
-  where
-    go : (t u v w x y : Bool) → eqb b 32 ≡ t → eqb b 9 ≡ u → eqb b 10 ≡ v → pick t u v w x y ≡ 1 →
-        (Blank ≡
-        cond t Blank (cond u Blank (cond (eqb b 33) Bang (cond (eqb b 92) (cond (ends_line c d) Join Other) (cond (eqb b 47) (cond (eqb c 47) Slashes Other) (cond (ends_line b c) Blank Other)))))) ×
-        (v ≡ false)
-    go true u v w x y p q r e = (refl, sym r ∙ rw (eqb-true b 32 p) refl)
-    go false true v w x y p q r e = (refl, sym r ∙ rw (eqb-true b 9 q) refl)
-    go false false true w x y p q r e = absurd (eqb-false 2 1 refl e)
-    go false false false true x true p q r e = absurd (eqb-false 4 1 refl e)
-    go false false false true x false p q r e = absurd (eqb-false 3 1 refl e)
-    go false false false false true y p q r e = absurd (eqb-false 3 1 refl e)
-    go false false false false false y p q r e = absurd (eqb-false 0 1 refl e)
+pub meant : (b : ℕ) (k : Kind) → kind_of b ≡ k → Means b k
+meant b k e = subst (Means b) e (means b)
 
--- a word ends before a blank or LF, and before CR LF
+blank_cases : (b : ℕ) → blank b ≡ true → (b ≡ 32) ⊎ (b ≡ 9)
+unfolding blank
+blank_cases b h = or_cases (eqb b 32) (eqb b 9) h (λ e. inl (eqb-true _ _ e)) (λ e. inr (eqb-true _ _ e))
 
-kind_stop : (b c d : ℕ) → bad_byte b ≡ true → kind_of b ≤ 2 → in_word b c d ≡ false
-unfolding kind_of in_word wordly class_of
-kind_stop b c d = go (eqb b 32) (eqb b 9) (eqb b 10) (bad_byte b) (eqb b 47) (eqb b 13)
-  where
-    go : (t u v w x y : Bool) → w ≡ true → pick t u v w x y ≤ 2 →
-        cond v false (wordly (cond t Blank (cond u Blank (cond (eqb b 33) Bang (cond (eqb b 92) (cond (ends_line c d) Join Other) (cond x (cond (eqb c 47) Slashes Other) (cond (ends_line b c) Blank Other))))))) ≡ false
-    go true u true w x y h e = refl
-    go true u false w x y h e = refl
-    go false true true w x y h e = refl
-    go false true false w x y h e = refl
-    go false false true w x y h e = refl
-    go false false false true x true h e = let z : ◌≡◌ {A = ℕ} 0 1 = omega (arith, e) in absurd (eqb-false 0 1 refl z)
-    go false false false true x false h e = let z : ◌≡◌ {A = ℕ} 0 1 = omega (arith, e) in absurd (eqb-false 0 1 refl z)
-    go false false false false x y h e = absurd (no h)
+pub blank_class : (b c d : ℕ) → blank b ≡ true → (Blank ≡ class_of b c d) × (b ≡ 10 → ⊥)
+unfolding class_of
+blank_class b c d h = ⊎_elim (λ (e : b ≡ 32). (rw e refl, differ b 32 10 refl e)) (λ (e : b ≡ 9). (rw e refl, differ b 9 10 refl e)) (blank_cases b h)
 
-line_stop : (b c d : ℕ) → ends_line b c ≡ true → in_word b c d ≡ false
-unfolding in_word wordly class_of ends_line
-line_stop b c d h = ⊎_elim (λ (e : b ≡ 10). rw e refl) (λ (e : (b ≡ 13) × (c ≡ 10)). rw (e.0, e.1) refl) (ends_cases b c h)
-
-pub plain_stop : (b c d : ℕ) → bad_byte b ≡ true → ends_plain b c ≡ true → in_word b c d ≡ false
-unfolding ends_plain
-plain_stop b c d h k = go (leb (kind_of b) 2) refl k
-  where
-    go : (t : Bool) → leb (kind_of b) 2 ≡ t → t || ends_line b c ≡ true → in_word b c d ≡ false
-    go true p e = kind_stop b c d h (leb-true _ _ p)
-    go false p e = line_stop b c d e
-
-pub low_ends : (b c : ℕ) → kind_of b ≤ 2 → ends_plain b c ≡ true
-unfolding ends_plain
-low_ends b c h = rw (le-leb _ _ h)
-
-kind_bad : (b : ℕ) → (kind_of b ≡ 0 → ⊥) → kind_of b ≤ 2 → bad_byte b ≡ true
-unfolding kind_of bad_byte
-kind_bad b = go (eqb b 32) (eqb b 9) (eqb b 10) (eqb b 47) (eqb b 13) refl refl refl
-  where
-    go : (t u v x y : Bool) → eqb b 32 ≡ t → eqb b 9 ≡ u → eqb b 10 ≡ v → (pick t u v (bad_byte b) x y ≡ 0 → ⊥) → pick t u v (bad_byte b) x y ≤ 2 → bad_byte b ≡ true
-    go true u v x y p q r n l = rw (eqb-true b 32 p) refl
-    go false true v x y p q r n l = rw (eqb-true b 9 q) refl
-    go false false true x y p q r n l = rw (eqb-true b 10 r) refl
-    go false false false x y p q r n l = bad (bad_byte b) refl n l
-      where
-        bad : (w : Bool) → bad_byte b ≡ w → (pick false false false w x y ≡ 0 → ⊥) → pick false false false w x y ≤ 2 → bad_byte b ≡ true
-        bad true e n l = e
-        bad false e n l = slash x n l
-          where
-            slash : (z : Bool) → (pick false false false false z y ≡ 0 → ⊥) → pick false false false false z y ≤ 2 → bad_byte b ≡ true
-            slash true n l = absurd (omega (arith, l))
-            slash false n l = absurd (n refl)
-
-line_bad : (b c : ℕ) → ends_line b c ≡ true → bad_byte b ≡ true
+-- the bytes of a plain word
+pub rank_clean : (b m : ℕ) → m ≤ 2 → rank (kind_of b) ≤ m → bad_byte b ≡ false
 unfolding bad_byte
-line_bad b c h = ⊎_elim (λ (e : b ≡ 10). rw e refl) (λ (e : (b ≡ 13) × (c ≡ 10)). rw e.0 refl) (ends_cases b c h)
-
--- a byte that ends a plain word, and is no plain byte itself
-pub ends_bad : (b c : ℕ) → (kind_of b ≡ 0 → ⊥) → ends_plain b c ≡ true → bad_byte b ≡ true
-unfolding ends_plain
-ends_bad b c n k = go (leb (kind_of b) 2) refl k
+rank_clean b m k = go (kind_of b) (means b)
   where
-    go : (t : Bool) → leb (kind_of b) 2 ≡ t → t || ends_line b c ≡ true → bad_byte b ≡ true
-    go true p e = kind_bad b n (leb-true _ _ p)
-    go false p e = line_bad b c e
+    go : (x : Kind) → Means b x → rank x ≤ m → bad_byte b ≡ false
+    go kind.Plain e h = e.0
+    go kind.Slash e h = rw e refl
+    go kind.Percent e h = rw e refl
+    go kind.Other e h = absurd (omega arith)
+
+pub rank_percent : (b : ℕ) → rank (kind_of b) ≤ 1 → eqb b 37 ≡ false
+rank_percent b = go (kind_of b) (means b)
+  where
+    go : (x : Kind) → Means b x → rank x ≤ 1 → eqb b 37 ≡ false
+    go kind.Plain e h = ne_eqb _ _ e.2
+    go kind.Slash e h = rw e refl
+    go kind.Percent e h = absurd (omega arith)
+    go kind.Other e h = absurd (omega arith)
+
+-- a plain word ends before a blank, and before a line end
+pub plain_stop : (b c d : ℕ) → ends_plain b c ≡ true → in_word b c d ≡ false
+unfolding ends_plain in_word wordly class_of ends_line
+plain_stop b c d h =
+    or_cases (blank b) (ends_line b c) h
+    (λ e. ⊎_elim (λ (q : b ≡ 32). rw q refl) (λ (q : b ≡ 9). rw q refl) (blank_cases b e))
+    (λ e. ⊎_elim (λ (q : b ≡ 10). rw q refl) (λ (q : (b ≡ 13) × (c ≡ 10)). rw (q.0, q.1) refl) (ends_cases b c e))
 
 -- a word begins: no blank, no line end, no join, no comment
 pub record Begins (b c d : ℕ) : Type 0 where
-  pub blank : kind_of b ≡ 1 → ⊥
+  pub blank : blank b ≡ false
   pub feed : ends_line b c ≡ false
   pub joins : b ≡ 92 → ends_line c d ≡ false
   pub note : b ≡ 47 → c ≡ 47 → ⊥
 
 pub begins_char : (b c d : ℕ) → Begins b c d → at_other Space (class_of b c d) b ≡ (char b, Word)
-unfolding kind_of class_of
+unfolding blank class_of
 begins_char b c d h = go (eqb b 32) (eqb b 9) (eqb b 33) (eqb b 92) (ends_line c d) (eqb b 47) (eqb c 47) (ends_line b c) refl refl refl refl refl refl h.feed
   where
     go : (t u v w x y z l : Bool) → eqb b 32 ≡ t → eqb b 9 ≡ u → eqb b 92 ≡ w → ends_line c d ≡ x → eqb b 47 ≡ y → eqb c 47 ≡ z → l ≡ false →
         at_other Space (cond t Blank (cond u Blank (cond v Bang (cond w (cond x Join Other) (cond y (cond z Slashes Other) (cond l Blank Other)))))) b ≡ (char b, Word)
-    go true u v w x y z l p q r i j k o = absurd (h.blank (rw p refl))
-    go false true v w x y z l p q r i j k o = absurd (h.blank (rw (p, q) refl))
+    go true u v w x y z l p q r i j k o = absurd (no (sym h.blank ∙ rw p))
+    go false true v w x y z l p q r i j k o = absurd (no (sym h.blank ∙ rw (p, q)))
     go false false true w x y z l p q r i j k o = refl
     go false false false true true y z l p q r i j k o = absurd (no (sym (h.joins (eqb-true _ _ r)) ∙ i))
     go false false false true false y z l p q r i j k o = refl
@@ -202,50 +164,37 @@ begins_char b c d h = go (eqb b 32) (eqb b 9) (eqb b 33) (eqb b 92) (ends_line c
     go false false false false x false z true p q r i j k o = absurd (no (sym o))
     go false false false false x false z false p q r i j k o = refl
 
--- a byte of kind 0
-pub kind_zero : (b c d : ℕ) → kind_of b ≡ 0 → Begins b c d × (bad_byte b ≡ false)
-unfolding kind_of
-kind_zero b c d h = go (eqb b 32) (eqb b 9) (eqb b 10) (bad_byte b) (eqb b 47) (eqb b 13) refl refl refl h
+-- a byte of a plain word, where no comment begins
+pub plain_begins : (b c d : ℕ) → begins_plain b c ≡ true → Begins b c d × (bad_byte b ≡ false)
+unfolding begins_plain blank bad_byte
+plain_begins b c d = go (kind_of b) (means b) (eqb c 47) refl
   where
-    go : (t u v w x y : Bool) → eqb b 10 ≡ v → bad_byte b ≡ w → eqb b 47 ≡ x → pick t u v w x y ≡ 0 → Begins b c d × (bad_byte b ≡ false)
-    go true u v w x y p q r e = absurd (eqb-false 1 0 refl e)
-    go false true v w x y p q r e = absurd (eqb-false 1 0 refl e)
-    go false false true w x y p q r e = absurd (eqb-false 2 0 refl e)
-    go false false false true x true p q r e = absurd (eqb-false 4 0 refl e)
-    go false false false true x false p q r e = absurd (eqb-false 3 0 refl e)
-    go false false false false true y p q r e = absurd (eqb-false 3 0 refl e)
-    go false false false false false y p q r e = (
-      record {
-        blank = λ k. eqb-false 0 1 refl (sym h ∙ k);
-        feed = plain_goes_on b c q;
-        joins = λ i. absurd ((not_bad b q).slash i);
-        note = λ i j. eqb-false _ _ r i;
-      },
-      q,
-    )
+    begins : bad_byte b ≡ false → (b ≡ 47 → c ≡ 47 → ⊥) → Begins b c d × (bad_byte b ≡ false)
+    begins q k =
+        let p = not_bad b q in
+        let x : b ≡ 32 → ⊥ = λ e. omega (arith, p.least, e) in
+        let y : b ≡ 9 → ⊥ = λ e. omega (arith, p.least, e) in
+        (record { blank = rw (ne_eqb b 32 x, ne_eqb b 9 y) refl; feed = plain_goes_on b c q; joins = λ i. absurd (p.slash i); note = k }, q)
 
--- a slash with no slash behind it
-lone_slash : (b c d : ℕ) → b ≡ 47 → (c ≡ 47 → ⊥) → Begins b c d × (bad_byte b ≡ false)
-unfolding kind_of bad_byte
-lone_slash b c d h k = (
-  record {
-    blank = λ e. eqb-false 3 1 refl (rw h at e);
-    feed = ends_not b c (λ e. eqb-false 47 10 refl (sym h ∙ e)) (λ e. eqb-false 47 13 refl (sym h ∙ e));
-    joins = λ e. absurd (eqb-false 47 92 refl (sym h ∙ e));
-    note = λ e. k;
-  },
-  rw h refl,
-)
+    go : (x : Kind) → Means b x → (f : Bool) → eqb c 47 ≡ f → begins_kind x f ≡ true → Begins b c d × (bad_byte b ≡ false)
+    go kind.Plain e f p h = begins e.0 (λ k. absurd (e.1 k))
+    go kind.Slash e true p h = absurd (no h)
+    go kind.Slash e false p h = begins (rw e refl) (λ k. eqb-false _ _ p)
+    go kind.Percent e f p h = begins (rw e refl) (λ k. absurd (differ b 37 47 refl e k))
+    go kind.Other e f p h = absurd (no h)
 
-pub begins_plain_lem : (r : Bool) (b c d : ℕ) → r ≡ begins_plain b c → r ≡ true → Begins b c d × (bad_byte b ≡ false)
+percent_fine : (b : ℕ) → b ≡ 37 → bad_byte b ≡ false
+unfolding bad_byte
+percent_fine b e = rw e refl
+
+-- the kind that most words begin with
+pub plain_kind : (b c : ℕ) → kind_of b ≡ kind.Plain → begins_plain b c ≡ true
 unfolding begins_plain
-begins_plain_lem r b c d h k = go (eqb (kind_of b) 0) (eqb b 47) (eqb c 47) refl refl refl (sym h ∙ k)
-  where
-    go : (t u v : Bool) → eqb (kind_of b) 0 ≡ t → eqb b 47 ≡ u → eqb c 47 ≡ v → t || (u && not v) ≡ true → Begins b c d × (bad_byte b ≡ false)
-    go true u v p q r e = kind_zero b c d (eqb-true _ _ p)
-    go false true true p q r e = absurd (no e)
-    go false true false p q r e = lone_slash b c d (eqb-true _ _ q) (eqb-false _ _ r)
-    go false false v p q r e = absurd (no e)
+plain_kind b c h = rw h refl
+
+percent_kind : (b c : ℕ) → kind_of b ≡ kind.Percent → begins_plain b c ≡ true
+unfolding begins_plain
+percent_kind b c h = rw h refl
 
 pub join_class : (b c d : ℕ) → b ≡ 92 → ends_line c d ≡ true → Join ≡ class_of b c d
 unfolding class_of
@@ -264,5 +213,53 @@ pub return_class : (b c d : ℕ) → b ≡ 13 → c ≡ 10 → Blank ≡ class_o
 unfolding class_of ends_line
 return_class b c d p q = rw (p, q) refl
 
-pub differ : (b k m : ℕ) → eqb k m ≡ false → b ≡ k → b ≡ m → ⊥
-differ b k m h e f = eqb-false k m h (sym e ∙ f)
+-- the ways through the tests of the byte b at which a plain word may begin, where c stands behind it
+module _ (b c : ℕ) where
+  pub begins_slash : b ≡ 47 → not (eqb c 47) ≡ begins_plain b c
+  unfolding begins_plain kind_of bad_byte
+  begins_slash e = rw e refl
+
+  pub begins_percent : (kind_of b ≡ kind.Plain → ⊥) → (b ≡ 47 → ⊥) → eqb b 37 ≡ begins_plain b c
+  unfolding begins_plain
+  begins_percent = go (kind_of b) (means b)
+    where
+      go : (k : Kind) → Means b k → (k ≡ kind.Plain → ⊥) → (b ≡ 47 → ⊥) → eqb b 37 ≡ begins_kind k (eqb c 47)
+      go kind.Plain e m n = absurd (m refl)
+      go kind.Slash e m n = absurd (n e)
+      go kind.Percent e m n = rw e refl
+      go kind.Other e m n = ne_eqb b 37 (λ q. no (sym (percent_fine b q) ∙ e))
+
+-- and through those of the byte at which a plain word may end
+module _ (b c : ℕ) where
+  pub ends_blank : blank b ≡ true → true ≡ ends_plain b c
+  unfolding ends_plain
+  ends_blank h = rw h refl
+
+  module _ (h : blank b ≡ false) where
+    pub ends_return : b ≡ 13 → eqb c 10 ≡ ends_plain b c
+    unfolding ends_plain ends_line
+    ends_return e = rw h (rw e refl)
+
+    pub ends_feed_only : (b ≡ 13 → ⊥) → eqb b 10 ≡ ends_plain b c
+    unfolding ends_plain
+    ends_feed_only n = rw h (sym (ends_feed b c (λ e. absurd (n e))))
+
+-- for the crates that know the kinds by numbers still
+
+pub kind_zero : (b c d : ℕ) → kind_number b ≡ 0 → Begins b c d × (bad_byte b ≡ false)
+kind_zero b c d h = plain_begins b c d (go (kind_of b) refl (means b))
+  where
+    go : (k : Kind) → kind_of b ≡ k → Means b k → begins_plain b c ≡ true
+    go kind.Plain e m = plain_kind b c e
+    go kind.Slash e m = absurd (slash_number b m h)
+    go kind.Percent e m = percent_kind b c e
+    go kind.Other e m = absurd (bad_number b m h)
+
+pub plain_of : (b : ℕ) → kind_number b ≡ 0 → (b ≡ 37 → ⊥) → kind_of b ≡ kind.Plain
+plain_of b h n = go (kind_of b) refl (means b)
+  where
+    go : (k : Kind) → kind_of b ≡ k → Means b k → k ≡ kind.Plain
+    go kind.Plain e m = refl
+    go kind.Slash e m = absurd (slash_number b m h)
+    go kind.Percent e m = absurd (n m)
+    go kind.Other e m = absurd (bad_number b m h)

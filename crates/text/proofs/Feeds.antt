@@ -5,10 +5,15 @@ use mathlib.Core.Path.{◌≡◌, refl, sym, ◌∙◌}
 use mathlib.Core.List.{List, [], ◌∷◌}
 use mathlib.Core.Bool.{Bool, true, false, ◌||◌, ◌&&◌, cond}
 use mathlib.Core.Logic.{◌⊎◌, inl, inr, ⊎_elim}
-use borrow.Author.Tests.{eq-eqb, ne_eqb, eqb-true, eqb-false, lt-ltb, le-ltb, ltb-true}
+use borrow.Author.Tests.{eq-eqb, ne_eqb, eqb-true, eqb-false, lt-ltb, le-ltb, ltb-true, ltb-false}
 use lib.Dec.{eqb, ltb}
-use lib.ListN.{length, get_or, drop}
+use lib.ListN.{length, get_or, take, drop, length-drop}
 use lib.Seq.{get_or-drop}
+use Rattle.std.proofs.lemmas.List.{length-take-le}
+use Rattle.std.proofs.lemmas.Slice.{between_is}
+use Rattle.std.specs.Cmp.Lexicographic.{pointwise}
+use Rattle.text.proofs.Comparing.{drop_at}
+use Rattle.std.specs.Prelude.{Some, None}
 use Rattle.text.specs.declared.Class.{Class}
 use Rattle.text.specs.declared.Class.TheVariants.{Blank}
 use Rattle.text.specs.declared.Place.{Place}
@@ -16,50 +21,26 @@ use Rattle.text.specs.declared.Place.TheVariants.{Start, Space, JoinStart, JoinS
 use Rattle.text.specs.Bytes.{first}
 use Rattle.text.specs.Marks.{ends_line, Mark, gap, join, at_feed, at_other, marks}
 use Rattle.text.specs.Lines.{words, heading, lines_of}
-use Rattle.text.specs.Reading.{feed_end, join_end, slash_before}
+use Rattle.text.specs.Reading.{slash_before, feed_end as feed_number}
+use Rattle.text.specs.Sources.{feed_end, join_end}
+use Rattle.text.proofs.Lists.{no, and_both}
+use Rattle.text.proofs.Olds.{feed_of, feed_not}
 use Rattle.text.proofs.Positions.{first_drop, marks_at, step_other, step_feed, lines_gap, lines_join}
-use Rattle.text.proofs.ByteKinds.{ends_cases, ends_not, differ, return_class}
+use Rattle.text.proofs.ByteKinds.{ends_cases, differ, return_class}
 
-byte_in : (s : List ℕ) (k b : ℕ) → get_or s k 0 ≡ b → 0 < b → k < length s
+pub byte_in : (s : List ℕ) (k b : ℕ) → get_or s k 0 ≡ b → 0 < b → k < length s
 byte_in [] zero b e h = absurd (omega arith)
 byte_in [] (suc k) b e h = absurd (omega arith)
 byte_in (x ∷ s) zero b e h = omega arith
 byte_in (x ∷ s) (suc k) b e h = suc-le-suc (byte_in s k b e h)
 
--- the ways through `feed_end` and `join_end`
-
-module _ (s : List ℕ) (i : ℕ) where
-  pub feed_lf : first (drop i s) ≡ 10 → i + 1 ≡ feed_end s i
-  unfolding feed_end
-  feed_lf e = rw e refl
-
-  pub feed_other : (first (drop i s) ≡ 10 → ⊥) → (first (drop i s) ≡ 13 → ⊥) → 0 ≡ feed_end s i
-  unfolding feed_end
-  feed_other h k = rw (ne_eqb _ 10 h, ends_not _ (first (drop (i + 1) s)) h k) refl
-
-  pub feed_lone : first (drop i s) ≡ 13 → (first (drop (i + 1) s) ≡ 10 → ⊥) → 0 ≡ feed_end s i
-  unfolding feed_end ends_line
-  feed_lone e h = rw (e, ne_eqb _ 10 h) refl
-
-  pub feed_crlf : first (drop i s) ≡ 13 → first (drop (i + 1) s) ≡ 10 → i + 2 ≡ feed_end s i
-  unfolding feed_end ends_line
-  feed_crlf e f = rw (e, f) refl
-
-  pub join_other : (get_or s i 0 ≡ 92 → ⊥) → 0 ≡ join_end s i
-  unfolding join_end
-  join_other h = rw (ne_eqb _ 92 h) refl
-
-  pub join_slash : get_or s i 0 ≡ 92 → feed_end s (i + 1) ≡ join_end s i
-  unfolding join_end
-  join_slash e = rw e refl
-
 -- the line end at i is LF up to z, or CR LF
 abbrev pub FeedCases : List ℕ → ℕ → ℕ → Type 0
 FeedCases s i z = ((z ≡ i + 1) × (get_or s i 0 ≡ 10)) ⊎ ((z ≡ i + 2) × ((get_or s i 0 ≡ 13) × (get_or s (i + 1) 0 ≡ 10)))
 
-feed_cases : (s : List ℕ) (i z : ℕ) → z ≡ feed_end s i → (z ≡ 0 → ⊥) → FeedCases s i z
+feed_cases : (s : List ℕ) (i z : ℕ) → feed_end s i ≡ Some z → FeedCases s i z
 unfolding feed_end
-feed_cases s i z h n = go (eqb (first (drop i s)) 10) (ends_line (first (drop i s)) (first (drop (i + 1) s))) refl refl h
+feed_cases s i z h = go (eqb (first (drop i s)) 10) (ends_line (first (drop i s)) (first (drop (i + 1) s))) refl refl h
   where
     b : get_or s i 0 ≡ first (drop i s)
     b = sym (first_drop s i)
@@ -67,14 +48,14 @@ feed_cases s i z h n = go (eqb (first (drop i s)) 10) (ends_line (first (drop i 
     c : get_or s (i + 1) 0 ≡ first (drop (i + 1) s)
     c = sym (first_drop s (i + 1))
 
-    go : (t u : Bool) → eqb (first (drop i s)) 10 ≡ t → ends_line (first (drop i s)) (first (drop (i + 1) s)) ≡ u → z ≡ cond t (i + 1) (cond u (i + 2) 0) →
-        FeedCases s i z
-    go true u p q e = inl (e, b ∙ eqb-true _ _ p)
+    go : (t u : Bool) → eqb (first (drop i s)) 10 ≡ t → ends_line (first (drop i s)) (first (drop (i + 1) s)) ≡ u →
+        cond t (Some (i + 1)) (cond u (Some (i + 2)) None) ≡ Some z → FeedCases s i z
+    go true u p q e = inl (cc, b ∙ eqb-true _ _ p)
     go false true p q e =
         ⊎_elim (λ (w : first (drop i s) ≡ 10). absurd (eqb-false _ _ p w))
-        (λ (w : (first (drop i s) ≡ 13) × (first (drop (i + 1) s) ≡ 10)). inr (e, (b ∙ w.0, c ∙ w.1)))
+        (λ (w : (first (drop i s) ≡ 13) × (first (drop (i + 1) s) ≡ 10)). inr (cc, (b ∙ w.0, c ∙ w.1)))
         (ends_cases (first (drop i s)) (first (drop (i + 1) s)) q)
-    go false false p q e = absurd (n e)
+    go false false p q e = cc
 
 -- there is a line end at i, and z is behind it
 pub record FeedAt (s : List ℕ) (i z : ℕ) : Type 0 where
@@ -82,8 +63,8 @@ pub record FeedAt (s : List ℕ) (i z : ℕ) : Type 0 where
   pub high : z ≤ length s
   pub cases : FeedCases s i z
 
-pub feed_at : (s : List ℕ) (i z : ℕ) → z ≡ feed_end s i → (z ≡ 0 → ⊥) → FeedAt s i z
-feed_at s i z h n =
+pub feed_some : (s : List ℕ) (i z : ℕ) → feed_end s i ≡ Some z → FeedAt s i z
+feed_some s i z h =
     ⊎_elim
     (λ (w : (z ≡ i + 1) × (get_or s i 0 ≡ 10)).
     let k : i < length s = byte_in s i 10 w.1 (omega arith) in
@@ -93,7 +74,7 @@ feed_at s i z h n =
     let k : i + 1 < length s = byte_in s (i + 1) 10 w.1.1 (omega arith) in
     let e = w.0 in
     record { low = omega arith; high = omega arith; cases = inr w })
-    (feed_cases s i z h n)
+    (feed_cases s i z h)
 
 -- it begins with no backslash
 pub feed_slash : (s : List ℕ) (i z : ℕ) → FeedAt s i z → get_or s i 0 ≡ 92 → ⊥
@@ -103,13 +84,13 @@ feed_slash s i z v e =
     v.cases
 
 -- there is none
-pub feed_none : (s : List ℕ) (i z : ℕ) → z ≡ feed_end s i → z ≡ 0 → ends_line (get_or s i 0) (first (drop (i + 1) s)) ≡ false
+pub feed_no : (s : List ℕ) (i : ℕ) → feed_end s i ≡ None → ends_line (get_or s i 0) (first (drop (i + 1) s)) ≡ false
 unfolding feed_end ends_line
-feed_none s i z h e = rw (sym (first_drop s i)) (go (eqb (first (drop i s)) 10) (eqb (first (drop i s)) 13 && eqb (first (drop (i + 1) s)) 10) (sym h ∙ e))
+feed_no s i h = rw (sym (first_drop s i)) (go (eqb (first (drop i s)) 10) (eqb (first (drop i s)) 13 && eqb (first (drop (i + 1) s)) 10) h)
   where
-    go : (t u : Bool) → cond t (i + 1) (cond (t || u) (i + 2) 0) ≡ 0 → t || u ≡ false
-    go true u k = absurd (omega arith)
-    go false true k = absurd (omega arith)
+    go : (t u : Bool) → cond t (Some (i + 1)) (cond (t || u) (Some (i + 2)) None) ≡ None → t || u ≡ false
+    go true u k = cc
+    go false true k = cc
     go false false k = refl
 
 -- a backslash at i joins the line end before z
@@ -118,20 +99,20 @@ pub record JoinAt (s : List ℕ) (i z : ℕ) : Type 0 where
   pub slash : get_or s i 0 ≡ 92
   pub feed : FeedAt s (i + 1) z
 
-pub join_at : (s : List ℕ) (i z : ℕ) → z ≡ join_end s i → (z ≡ 0 → ⊥) → JoinAt s i z
+pub join_some : (s : List ℕ) (i z : ℕ) → join_end s i ≡ Some z → JoinAt s i z
 unfolding join_end
-join_at s i z h n = go (eqb (get_or s i 0) 92) refl h
+join_some s i z h = go (eqb (first (drop i s)) 92) refl h
   where
-    go : (t : Bool) → eqb (get_or s i 0) 92 ≡ t → z ≡ cond t (feed_end s (i + 1)) 0 → JoinAt s i z
-    go true p e = record { slash = eqb-true _ _ p; feed = feed_at s (i + 1) z e n }
-    go false p e = absurd (n e)
+    go : (t : Bool) → eqb (first (drop i s)) 92 ≡ t → cond t (feed_end s (i + 1)) None ≡ Some z → JoinAt s i z
+    go true p e = record { slash = sym (first_drop s i) ∙ eqb-true _ _ p; feed = feed_some s (i + 1) z e }
+    go false p e = cc
 
-pub join_none : (s : List ℕ) (i z : ℕ) → z ≡ join_end s i → z ≡ 0 → get_or s i 0 ≡ 92 → ends_line (first (drop (i + 1) s)) (first (drop (i + 2) s)) ≡ false
+pub join_no : (s : List ℕ) (i : ℕ) → join_end s i ≡ None → get_or s i 0 ≡ 92 → ends_line (first (drop (i + 1) s)) (first (drop (i + 2) s)) ≡ false
 unfolding join_end
-join_none s i z h e b =
+join_no s i h b =
     let q : i + 1 + 1 ≡ i + 2 = omega arith in
-    let k : z ≡ feed_end s (i + 1) = rw (eq-eqb (get_or s i 0) 92 b) at h in
-    rw (first_drop s (i + 1)) (rw q at (feed_none s (i + 1) z k e))
+    let k : feed_end s (i + 1) ≡ None = rw (eq-eqb (first (drop i s)) 92 (first_drop s i ∙ b)) at h in
+    rw (first_drop s (i + 1)) (rw q at (feed_no s (i + 1) k))
 
 pub join_ends : (s : List ℕ) (i z : ℕ) → JoinAt s i z → ends_line (first (drop (i + 1) s)) (first (drop (i + 2) s)) ≡ true
 unfolding ends_line
@@ -200,31 +181,101 @@ joined_start s = joined_at s JoinStart Start refl (λ k b. refl)
 pub joined_space : (s : List ℕ) (i z : ℕ) → FeedAt s i z → Joined s JoinSpace Space i z
 joined_space s = joined_at s JoinSpace Space refl (λ k b. refl)
 
--- a backslash before a line end; the ways through `slash_before`
-
+-- the ways through `feed_end` and `join_end`
 module _ (s : List ℕ) (i : ℕ) where
-  pub slash_none : i ≡ 0 → false ≡ slash_before s i
-  unfolding slash_before
-  slash_none e = rw e refl
+  pub feed_lf : first (drop i s) ≡ 10 → Some (i + 1) ≡ feed_end s i
+  unfolding feed_end
+  feed_lf e = rw e refl
 
-  pub slash_one : (i ≡ 0 → ⊥) → (get_or s (i - 1) 0 ≡ 13 → ⊥) → eqb (get_or s (i - 1) 0) 92 ≡ slash_before s i
-  unfolding slash_before
-  slash_one n h = let p : 0 < i = omega arith in rw (lt-ltb 0 i p, ne_eqb _ 13 h) refl
+  pub feed_crlf : (first (drop i s) ≡ 10 → ⊥) → ends_line (first (drop i s)) (first (drop (i + 1) s)) ≡ true → Some (i + 2) ≡ feed_end s i
+  unfolding feed_end
+  feed_crlf n e = rw (ne_eqb _ 10 n, e) refl
 
-  pub slash_first : get_or s (i - 1) 0 ≡ 13 → i ≡ 1 → false ≡ slash_before s i
+  pub feed_over : (first (drop i s) ≡ 10 → ⊥) → ends_line (first (drop i s)) (first (drop (i + 1) s)) ≡ false → None ≡ feed_end s i
+  unfolding feed_end
+  feed_over n e = rw (ne_eqb _ 10 n, e) refl
+
+  pub join_other : (first (drop i s) ≡ 92 → ⊥) → None ≡ join_end s i
+  unfolding join_end
+  join_other h = rw (ne_eqb _ 92 h) refl
+
+  pub join_slash : first (drop i s) ≡ 92 → feed_end s (i + 1) ≡ join_end s i
+  unfolding join_end
+  join_slash e = rw e refl
+
+  pub join_high : first (drop i s) ≡ 92 → i + 1 ≤ length s
+  join_high e = let l = byte_in s i 92 (sym (first_drop s i) ∙ e) (omega arith) in omega arith
+
+-- a backslash before a line end
+
+last_one : (s : List ℕ) (i : ℕ) → 0 < i → i ≤ length s → drop (length (take i s) - 1) (take i s) ≡ get_or s (i - 1) 0 ∷ []
+last_one s i p h =
+    let l : length (take i s) ≡ i = length-take-le i s h in
+    let q : i - (i - 1) ≡ 1 = omega arith in
+    let b : i - 1 < length s = omega arith in
+    rw l (sym (between_is s (i - 1) i) ∙ rw (q, drop_at s (i - 1) b) refl)
+
+last_two : (s : List ℕ) (i : ℕ) → 1 < i → i ≤ length s → drop (length (take i s) - 2) (take i s) ≡ get_or s (i - 2) 0 ∷ get_or s (i - 1) 0 ∷ []
+last_two s i p h =
+    let l : length (take i s) ≡ i = length-take-le i s h in
+    let q : i - (i - 2) ≡ 2 = omega arith in
+    let r : i - 2 + 1 ≡ i - 1 = omega arith in
+    let a : i - 2 < length s = omega arith in
+    let b : i - 1 < length s = omega arith in
+    rw l (sym (between_is s (i - 2) i) ∙ rw (q, drop_at s (i - 2) a, r, drop_at s (i - 1) b) refl)
+
+too_short : (a b : ℕ) (xs : List ℕ) → length xs ≤ 1 → pointwise eqb (a ∷ b ∷ []) xs ≡ false
+too_short a b [] h = refl
+too_short a b (x ∷ []) h = go (eqb a x)
+  where
+    go : (t : Bool) → t && false ≡ false
+    go true = refl
+    go false = refl
+too_short a b (x ∷ y ∷ xs) h = absurd (omega arith)
+
+-- as the ends of the text before it tell
+module _ (s : List ℕ) (i : ℕ) (h : i < length s) (r : Bool) (e : r ≡ pointwise eqb (92 ∷ []) (drop (length (take i s) - 1) (take i s))) where
+  one_back : 0 < i → r ≡ (eqb 92 (get_or s (i - 1) 0) && true)
+  one_back p = e ∙ rw (last_one s i p (omega arith)) refl
+
+  pub slash_one : r ≡ true → r ≡ slash_before s i
   unfolding slash_before
-  slash_first h e = let l : i ≤ 1 = omega arith in rw (h, le-ltb 1 i l) (go (ltb 0 i))
+  slash_one t = go (ltb 0 i) refl
     where
-      go : (t : Bool) → false ≡ (t && false)
-      go true = refl
-      go false = refl
+      go : (u : Bool) → ltb 0 i ≡ u → r ≡ u && cond (eqb (get_or s (i - 1) 0) 13) (ltb 1 i && eqb (get_or s (i - 2) 0) 92) (eqb (get_or s (i - 1) 0) 92)
+      go true p =
+          let x : 92 ≡ get_or s (i - 1) 0 = eqb-true _ _ (and_both _ _ (sym (one_back (ltb-true _ _ p)) ∙ t)).0 in
+          rw (t, sym x) refl
+      go false p = let z : i ≡ 0 = omega (arith, ltb-false _ _ p) in rw z at e
 
-  pub slash_two : (i ≡ 0 → ⊥) → get_or s (i - 1) 0 ≡ 13 → (i ≡ 1 → ⊥) → eqb (get_or s (i - 2) 0) 92 ≡ slash_before s i
+  pub slash_two : (q : Bool) → r ≡ false → q ≡ pointwise eqb (92 ∷ 13 ∷ []) (drop (length (take i s) - 2) (take i s)) → q ≡ slash_before s i
   unfolding slash_before
-  slash_two n h m =
-      let p : 0 < i = omega arith in
-      let q : 1 < i = omega arith in
-      rw (lt-ltb 0 i p, lt-ltb 1 i q, h) refl
+  slash_two q f g = go (ltb 0 i) (ltb 1 i) refl refl
+    where
+      other : 0 < i → get_or s (i - 1) 0 ≡ 92 → ⊥
+      other p x = no (sym f ∙ (one_back p ∙ rw x refl))
+
+      two : (t u : Bool) → eqb 92 (get_or s (i - 2) 0) ≡ t → eqb 13 (get_or s (i - 1) 0) ≡ u → 0 < i → q ≡ t && (u && true) →
+          q ≡ cond (eqb (get_or s (i - 1) 0) 13) (eqb (get_or s (i - 2) 0) 92) (eqb (get_or s (i - 1) 0) 92)
+      two true true a b p k = k ∙ rw (sym (eqb-true _ _ a), sym (eqb-true _ _ b)) refl
+      two false true a b p k = k ∙ rw (sym (eqb-true _ _ b), ne_eqb (get_or s (i - 2) 0) 92 (λ x. eqb-false _ _ a (sym x))) refl
+      two true false a b p k = k ∙ rw (ne_eqb (get_or s (i - 1) 0) 13 (λ x. eqb-false _ _ b (sym x)), ne_eqb _ 92 (other p)) refl
+      two false false a b p k = k ∙ rw (ne_eqb (get_or s (i - 1) 0) 13 (λ x. eqb-false _ _ b (sym x)), ne_eqb _ 92 (other p)) refl
+
+      one : (t : Bool) → cond t false false ≡ false
+      one true = refl
+      one false = refl
+
+      short : ltb 1 i ≡ false → q ≡ false
+      short p =
+          let l : length (take i s) ≡ i = length-take-le i s (omega arith) in
+          let n : length (drop (length (take i s) - 2) (take i s)) ≤ 1 = simp length-drop (omega (arith, ltb-false _ _ p)) in
+          g ∙ too_short 92 13 _ n
+
+      go : (t u : Bool) → ltb 0 i ≡ t → ltb 1 i ≡ u → q ≡ t && cond (eqb (get_or s (i - 1) 0) 13) (u && eqb (get_or s (i - 2) 0) 92) (eqb (get_or s (i - 1) 0) 92)
+      go true true a b = two (eqb 92 (get_or s (i - 2) 0)) (eqb 13 (get_or s (i - 1) 0)) refl refl (ltb-true _ _ a) (g ∙ rw (last_two s i (ltb-true _ _ b) (omega arith)) refl)
+      go true false a b = short b ∙ rw (ne_eqb _ 92 (other (ltb-true _ _ a))) (sym (one (eqb (get_or s (i - 1) 0) 13)))
+      go false u a b = let n = ltb-false _ _ a in short (le-ltb 1 i (omega arith))
 
 slash_feed : (s : List ℕ) (i : ℕ) → get_or s i 0 ≡ 92 → slash_before s (i + 1) ≡ true
 unfolding slash_before
@@ -285,3 +336,11 @@ slash_drop s k i h = go (ltb 0 i) (ltb 1 i) refl refl
         let a = ltb-true 0 i p in
         let a' : 0 < k + i = omega arith in
         rw (one a) (first_case (eqb (get_or s (k + i - 1) 0) 13) refl q (rw (lt-ltb 0 (k + i) a') at h))
+
+-- for the crates that read line ends as numbers still
+
+pub feed_at : (s : List ℕ) (i z : ℕ) → z ≡ feed_number s i → (z ≡ 0 → ⊥) → FeedAt s i z
+feed_at s i z h n = feed_some s i z (feed_of s i z h n)
+
+pub feed_none : (s : List ℕ) (i z : ℕ) → z ≡ feed_number s i → z ≡ 0 → ends_line (get_or s i 0) (first (drop (i + 1) s)) ≡ false
+feed_none s i z h e = feed_no s i (feed_not s i z h e)

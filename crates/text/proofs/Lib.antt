@@ -10,3 +10,8 @@ pub mod Entries
 pub mod Pairs
 pub mod Passing
 pub mod LineEnds
+pub mod Told
+pub mod Tables
+pub mod Olds
+pub mod Sources
+pub mod Firsts

@@ -29,6 +29,10 @@ first_drop [] (suc i) = refl
 first_drop (x ∷ s) zero = refl
 first_drop (x ∷ s) (suc i) = first_drop s i
 
+pub first_over : (s : List ℕ) (i : ℕ) → length s ≤ i → first (drop i s) ≡ 0
+unfolding first
+first_over s i h = rw (drop_of_length-le s h)
+
 -- a part of the file: none, one byte more behind it, one more before it
 pub part_empty : (s : List ℕ) (a : ℕ) → part s a a ≡ []
 unfolding part

@@ -5,68 +5,52 @@ use mathlib.Core.Path.{◌≡◌, refl, sym, ◌∙◌}
 use mathlib.Core.List.{List, [], ◌∷◌, ◌++◌}
 use mathlib.Core.Logic.{⊎_elim}
 use mathlib.Core.Bool.{Bool, true, false, ◌||◌, ◌&&◌, cond}
-use borrow.Author.Tests.{eq-eqb, eqb-true, eqb-false, ltb-true, ltb-false, lt-ltb, le-ltb, le-leb}
+use borrow.Author.Tests.{eq-eqb, ne_eqb, leb-true, eqb-true, eqb-false, ltb-true, ltb-false, lt-ltb, le-ltb, le-leb}
 use lib.Dec.{eqb, ltb, leb}
-use lib.ListN.{length, get_or, drop, length-drop, drop_of_length-le}
-use lib.Seq.{get_or-drop}
+use lib.ListN.{length, get_or, take, drop, length-drop, drop_of_length-le}
+use lib.Seq.{get_or-drop, take-length}
+use Rattle.std.specs.Prelude.{Option, Some, None}
+use Rattle.std.specs.Option.{MatchOption, unwrap_or}
+use Rattle.std.specs.Cmp.Lexicographic.{pointwise}
 use Rattle.text.specs.declared.Class.TheVariants.{Blank, Join, Slashes, Bang, Other}
 use Rattle.text.specs.declared.Place.{Place}
 use Rattle.text.specs.declared.Place.TheVariants.{Start, Space, Comment}
-use Rattle.text.specs.declared.Next.{Next}
-use Rattle.text.specs.declared.Next.TheVariants.{Found, Stop}
-use Rattle.text.specs.declared.Fast.{Fast}
-use Rattle.text.specs.declared.Fast.TheVariants as fast
+use Rattle.text.specs.declared.Next as old
+use Rattle.text.specs.declared.Next.TheVariants as of_old
 use Rattle.text.specs.declared.Plain.{Plain as PlainRead}
 use Rattle.text.specs.declared.Plain.TheVariants as plain
+use Rattle.text.specs.declared.kinds.Kind.{Kind}
+use Rattle.text.specs.declared.kinds.Kind.TheVariants as kind
+use Rattle.text.specs.declared.source.Next.{Next}
+use Rattle.text.specs.declared.source.Next.TheVariants.{Found, Stop}
 use Rattle.text.specs.Bytes.{Words, first, part, all_of, any_of}
 use Rattle.text.specs.Marks.{ends_line, class_of, Mark, char, gap, join, bang, end, at_feed, at_other, step, marks}
 use Rattle.text.specs.Lines.{run, words, heading, Line, lines_of}
 use Rattle.text.specs.Words.{bad_byte, too_long, words_fault}
-use Rattle.text.specs.Reading.{left, ahead, follow, fault_of, lower, level_of, kind_of, ends_plain, feed_end, join_end, Fenced, WordEnd, InWord, PlainEnd, RunEnd, OddWord, CommentEnd, Blanks, Skipped, FoundWord, NoWord, Between, FastWord, PlainFound, PlainWord, ValueWord, ByteWord, NextWord, Opens}
+use Rattle.text.specs.Kinds.{kind_of, rank, blank, begins_plain, ends_plain}
+use Rattle.text.specs.Reading.{left, ahead, follow, fault_of, lower, Fenced, WordEnd, InWord, OddWord, CommentEnd, Blanks, FoundWord, NoWord, Between, PlainFound, ByteWord, Opens}
+use Rattle.text.specs.Reading.{kind_of as kind_number, NextWord as NextOld, PlainWord as PlainOld, ValueWord as ValueOld, Skipped as SkippedOld}
+use Rattle.text.specs.Sources.{feed_end, join_end, Skipped, SkippedJoins, Opened, RunEnd, PlainWhole, NextWord}
+use Rattle.text.proofs.Firsts.{tail, tail_length, tail_at, First, first_some, first_none}
 use Rattle.text.proofs.Lists.{no, and_both, any_nil, any_cons}
-use Rattle.text.proofs.Positions.{first_drop, part_empty, part_cons, part_snoc, in_word_start, in_word_more, in_word_over, marks_at, step_other, step_feed, comment_words, first_in, length_part, lines_char, lines_gap, lines_bang, lines_end, lines_nil}
-use Rattle.text.proofs.ByteKinds.{not_bad, plain_in_word, kind_one, plain_stop, low_ends, ends_bad, ends_no, ends_feed, Begins, begins_char, kind_zero, join_class, note_class, bang_class, return_class, differ}
-use Rattle.text.proofs.Feeds.{FeedAt, feed_none, JoinAt, join_none, join_ends, joined_start, joined_space, slash_join, slash_drop}
+use Rattle.text.proofs.Positions.{first_drop, part_empty, part_cons, part_snoc, in_word_start, in_word_more, in_word_over, in_word_end, in_word_at, marks_at, step_other, step_feed, comment_words, first_in, length_part, lines_char, lines_gap, lines_bang, lines_end, lines_nil}
+use Rattle.text.proofs.ByteKinds.{not_bad, plain_in_word, meant, blank_class, rank_clean, rank_percent, plain_stop, ends_no, ends_feed, Begins, begins_char, plain_begins, plain_kind, join_class, note_class, bang_class, return_class, differ}
+use Rattle.text.proofs.Olds.{number_blank, blank_number}
+use Rattle.text.proofs.Feeds.{FeedAt, JoinAt, byte_in, feed_no, join_some, join_no, join_ends, joined_start, joined_space, slash_drop}
 
 -- two bytes, side by side
-pub pair_yes : (r : Bool) (b c k m : ℕ) → r ≡ (eqb b k && eqb c m) → r ≡ true → (b ≡ k) × (c ≡ m)
-pair_yes r b c k m e h = let w = and_both (eqb b k) (eqb c m) (sym e ∙ h) in (eqb-true b k w.0, eqb-true c m w.1)
+pair_yes : (b c k m : ℕ) → (eqb b k && eqb c m) ≡ true → (b ≡ k) × (c ≡ m)
+pair_yes b c k m h = let w = and_both (eqb b k) (eqb c m) h in (eqb-true b k w.0, eqb-true c m w.1)
 
-pub pair_no : (r : Bool) (b c k m : ℕ) → r ≡ (eqb b k && eqb c m) → r ≡ false → b ≡ k → c ≡ m → ⊥
-pair_no r b c k m e h p q = no (sym (sym e ∙ h) ∙ rw (eq-eqb b k p, eq-eqb c m q) refl)
+pair_no : (b c k m : ℕ) → (eqb b k && eqb c m) ≡ false → b ≡ k → c ≡ m → ⊥
+pair_no b c k m h p q = no (sym h ∙ rw (eq-eqb b k p, eq-eqb c m q) refl)
 
--- levels
+-- bytes of at most a kind
 
-pub level_clean : (b m : ℕ) → m ≤ 1 → level_of b ≤ m → bad_byte b ≡ false
-unfolding level_of
-level_clean b m k h = go (bad_byte b) (eqb b 37) h
-  where
-    go : (t u : Bool) → cond t 2 (cond u 1 0) ≤ m → t ≡ false
-    go true u e = absurd (omega (arith, k, e))
-    go false u e = refl
-
-pub level_bad : (b : ℕ) → 1 < level_of b → bad_byte b ≡ true
-unfolding level_of
-level_bad b h = go (bad_byte b) (eqb b 37) h
-  where
-    go : (t u : Bool) → 1 < cond t 2 (cond u 1 0) → t ≡ true
-    go true u e = refl
-    go false true e = absurd (omega (arith, e))
-    go false false e = absurd (omega (arith, e))
-
-level_plain : (b : ℕ) → leb (level_of b) 0 ≡ true → eqb b 37 ≡ false
-unfolding level_of
-level_plain b h = go (bad_byte b) (eqb b 37) h
-  where
-    go : (t u : Bool) → leb (cond t 2 (cond u 1 0)) 0 ≡ true → u ≡ false
-    go true u e = absurd (no e)
-    go false true e = absurd (no e)
-    go false false e = refl
-
-none_percent : (w : List ℕ) → all_of (λ b. leb (level_of b) 0) w ≡ true → any_of (λ b. eqb b 37) w ≡ false
+none_percent : (w : List ℕ) → all_of (λ b. leb (rank (kind_of b)) 1) w ≡ true → any_of (λ b. eqb b 37) w ≡ false
 unfolding all_of any_of
 none_percent [] h = refl
-none_percent (b ∷ w) h = let a = and_both (leb (level_of b) 0) _ h in rw (level_plain b a.0) (none_percent w a.1)
+none_percent (b ∷ w) h = let a = and_both (leb (rank (kind_of b)) 1) _ h in rw (rank_percent b (leb-true _ _ a.0)) (none_percent w a.1)
 
 all_snoc : (q : ℕ → Bool) (w : List ℕ) (b : ℕ) → all_of q w ≡ true → q b ≡ true → all_of q (w ++ (b ∷ [])) ≡ true
 unfolding all_of
@@ -97,12 +81,6 @@ module _ (s : List ℕ) (from i : ℕ) (v : Run s from i) where
         read = in_word_more s from i v.read h (plain_in_word _ _ _ b);
         clean = rw (part_snoc s from i v.read.low h) (any_snoc _ _ v.clean b);
       }
-
-  pub run_stop : bad_byte (get_or s i 0) ≡ true → PlainEnd s from i
-  run_stop b = record { read = v.read; clean = v.clean; stop = λ h. b }
-
-  pub run_end : length s ≤ i → PlainEnd s from i
-  run_end h = record { read = v.read; clean = v.clean; stop = λ l. absurd (let z : ◌≡◌ {A = ℕ} 0 1 = omega (arith, h, l) in eqb-false 0 1 refl z) }
 
 pub run_start : (s : List ℕ) (from : ℕ) → from ≤ length s → Run s from from
 run_start s from h = record { read = in_word_start s from h; clean = rw (part_empty s from, any_nil) }
@@ -162,11 +140,11 @@ pub blanks_start : (s : List ℕ) (from : ℕ) → from ≤ length s → Blanks 
 blanks_start s from h = record { low = omega arith; high = h; text = refl; onto = λ n. refl; mark₀ = refl; text₀ = refl; onto₀ = λ n. refl }
 
 module _ (s : List ℕ) (from i : ℕ) (v : Blanks s from i) where
-  pub blanks_more : i < length s → kind_of (get_or s i 0) ≡ 1 → Blanks s from (i + 1)
+  pub blanks_more : i < length s → blank (get_or s i 0) ≡ true → Blanks s from (i + 1)
   unfolding left ahead
   blanks_more h k =
-      let z = kind_one (get_or s i 0) (first (drop (i + 1) s)) (first (drop (i + 2) s)) k in
-      let n = eqb-false _ _ z.1 in
+      let z = blank_class (get_or s i 0) (first (drop (i + 1) s)) (first (drop (i + 2) s)) k in
+      let n = z.1 in
       record {
         low = omega (arith, v.low);
         high = omega arith;
@@ -177,11 +155,27 @@ module _ (s : List ℕ) (from i : ℕ) (v : Blanks s from i) where
         onto₀ = λ m. v.onto₀ m ∙ rw (marks_at Start s i h, step_other Start _ _ _ Blank n z.0, lines_gap);
       }
 
-  pub blanks_stop : (kind_of (get_or s i 0) ≡ 1 → ⊥) → Skipped s from i
+  pub blanks_stop : (blank (get_or s i 0) ≡ false) → Skipped s from i
   blanks_stop k = record { blanks = v; stop = λ h. k }
 
   pub blanks_end : length s ≤ i → Skipped s from i
   blanks_end h = record { blanks = v; stop = λ l. absurd (let z : ◌≡◌ {A = ℕ} 0 1 = omega (arith, h, l) in eqb-false 0 1 refl z) }
+
+-- the first byte that is no blank, as it is found
+abbrev pub NoBlank : ℕ → Type 0
+NoBlank b = blank b ≡ false
+
+abbrev pub IsBlank : ℕ → Type 0
+IsBlank b = blank b ≡ true
+
+pub skipped_first : (s : List ℕ) (from : ℕ) → from ≤ length s → (r : Option ℕ) → First NoBlank IsBlank (tail s from) r → Skipped s from (from + unwrap_or r (length (tail s from)))
+skipped_first s from h (Some n) w =
+    let v = first_some s from IsBlank (Blanks s from) (blanks_more s from) (blanks_start s from h) h NoBlank n w in
+    blanks_stop s from (from + n) v.0 v.2
+skipped_first s from h None w =
+    let v = first_none s from IsBlank (Blanks s from) (blanks_more s from) (blanks_start s from h) h NoBlank w in
+    let q : from + length (tail s from) ≡ length s = omega (arith, tail_length s from) in
+    rw q (blanks_end s from (length s) v (omega arith))
 
 -- comments
 
@@ -213,7 +207,45 @@ module _ (s : List ℕ) (from i : ℕ) (v : InComment s from i) where
   comment_over h =
       record { low = v.low; high = v.high; onto = λ n. v.onto n ∙ rw (drop_of_length-le s h, marks_nil, marks_nil, lines_nil, lines_nil) }
 
+abbrev pub NoFeed : ℕ → Type 0
+NoFeed b = b ≡ 10 → ⊥
+
+abbrev pub IsFeed : ℕ → Type 0
+IsFeed b = b ≡ 10
+
+module _ (s : List ℕ) (from : ℕ) (h : from ≤ length s) where
+  comment_start : InComment s from from
+  comment_start = record { low = omega arith; high = h; onto = λ n. refl }
+
+  pub comment_some : (r : Option ℕ) (n : ℕ) → r ≡ Some n → First IsFeed NoFeed (tail s from) r → CommentEnd s from (from + n + 1)
+  comment_some r n e w =
+      let v = first_some s from NoFeed (InComment s from) (comment_more s from) comment_start h IsFeed n (rw e at w) in
+      comment_feed s from (from + n) v.0 v.1 v.2
+
+  pub comment_none : (r : Option ℕ) → r ≡ None → First IsFeed NoFeed (tail s from) r → CommentEnd s from (length s)
+  comment_none r e w = comment_over s from (length s) (first_none s from NoFeed (InComment s from) (comment_more s from) comment_start h IsFeed (rw e at w)) (omega arith)
+
 -- a word of any kind
+
+along_at : (s : List ℕ) (from : ℕ) (V : ℕ → Type 0) → ((i : ℕ) → V i → i < length s → in_word_at s i ≡ true → V (i + 1)) → V from →
+    (n : ℕ) → from + n ≤ length s → ((k : ℕ) → from ≤ k → k < from + n → in_word_at s k ≡ true) → V (from + n)
+along_at s from V more start zero h f = let q : from + 0 ≡ from = omega arith in rw q start
+along_at s from V more start (suc n) h f =
+    let q : from + suc n ≡ from + n + 1 = omega arith in
+    rw q (more (from + n) (along_at s from V more start n (omega arith) (λ k a b. f k a (omega arith))) (omega arith) (f (from + n) (omega arith) (omega arith)))
+
+-- its end, as it is found
+pub word_first : (s : List ℕ) (from : ℕ) → from ≤ length s → (r : Option ℕ) →
+    MatchOption r ((k : ℕ) → from ≤ k → k < length s → in_word_at s k ≡ true) (λ i. (from ≤ i) × (i < length s) × (in_word_at s i ≡ false) × ((k : ℕ) → from ≤ k → k < i → in_word_at s k ≡ true)) →
+    WordEnd s from (unwrap_or r (length s))
+word_first s from h (Some i) w =
+    let q : from + (i - from) ≡ i = omega (arith, w.0) in
+    let v = along_at s from (InWord s from) (in_word_more s from) (in_word_start s from h) (i - from) (omega (arith, w.0, w.1)) (λ k a b. w.3 k a (omega (arith, w.0))) in
+    in_word_over s from i (rw q at v) w.1 w.2
+word_first s from h None w =
+    let q : from + (length s - from) ≡ length s = omega arith in
+    let v = along_at s from (InWord s from) (in_word_more s from) (in_word_start s from h) (length s - from) (omega arith) (λ k a b. w k a (omega arith)) in
+    in_word_end s from (length s) (rw q at v) (omega arith)
 
 module _ (s : List ℕ) (a e : ℕ) (lt : a < length s) (w : WordEnd s (a + 1) e) where
   pub odd_bad : any_of bad_byte (part s a e) ≡ true → OddWord s a e 4
@@ -229,12 +261,12 @@ module _ (s : List ℕ) (a e : ℕ) (lt : a < length s) (w : WordEnd s (a + 1) e
   odd_fine h k = record { ends = w; fault = rw (h, length_part s a e w.high, le-ltb _ _ k) refl }
 
 -- a plain word that a blank or a line end ends
-pub plain_word : (s : List ℕ) (a p : ℕ) → a < length s → bad_byte (get_or s a 0) ≡ false → PlainEnd s (a + 1) p → p < length s →
+pub plain_word : (s : List ℕ) (a p : ℕ) → a < length s → bad_byte (get_or s a 0) ≡ false → Run s (a + 1) p → p < length s →
     ends_plain (get_or s p 0) (first (drop (p + 1) s)) ≡ true → p ≤ a + 256 → OddWord s a p 0
 plain_word s a p lt b w h k l =
     let lo : a < p = omega (arith, w.read.low) in
     let e : any_of bad_byte (part s a p) ≡ false = rw (part_cons s a p lo w.read.high, any_cons, b) w.clean in
-    odd_fine s a p lt (in_word_over s (a + 1) p w.read h (plain_stop _ _ _ (w.stop h) k)) e (omega arith)
+    odd_fine s a p lt (in_word_over s (a + 1) p w.read h (plain_stop _ _ _ k)) e (omega arith)
 
 -- between words
 
@@ -340,21 +372,7 @@ between_over s from n i m z v u =
     rw q (between_feed s from n (i + 1) m (between_return s from n i m v h w.1.0 w.1.1) k w.1.1))
     u.cases
 
--- a word begins where there is no blank, no line end, no join and no comment
-pub begins_at : (s : List ℕ) (i e j : ℕ) → (kind_of (get_or s i 0) ≡ 1 → ⊥) → e ≡ feed_end s i → e ≡ 0 → j ≡ join_end s i → j ≡ 0 →
-    (get_or s i 0 ≡ 47 → first (drop (i + 1) s) ≡ 47 → ⊥) → Begins (get_or s i 0) (first (drop (i + 1) s)) (first (drop (i + 2) s))
-begins_at s i e j k f z g y n = record { blank = k; feed = feed_none s i e f z; joins = join_none s i j g y; note = n }
-
 -- the start of a line
-
-pub record Opened (s : List ℕ) (from n i m : ℕ) : Type 0 where
-  pub low : from ≤ i
-  pub high : i ≤ length s
-  pub few : m ≤ i + 1
-  pub grow : m + from ≤ n + i
-  pub mark : heading (marks Start (drop from s)) ≡ heading (marks Start (drop i s))
-  pub text : words false (marks Start (drop from s)) ≡ words false (marks Start (drop i s))
-  pub onto : lines_of n true (marks Start (drop from s)) ≡ lines_of m true (marks Start (drop i s))
 
 pub opened_skip : (s : List ℕ) (from n i : ℕ) → n ≤ from + 1 → Blanks s from i → Opened s from n i n
 opened_skip s from n i h v = record { low = v.low; high = v.high; few = omega (arith, v.low); grow = omega (arith, v.low); mark = v.mark₀; text = v.text₀; onto = v.onto₀ n }
@@ -370,22 +388,22 @@ heading_comment (b ∷ r) = go (eqb b 10) (heading_comment r)
     go false h = h
 
 -- what may stand at the first byte that is not blank: no heading mark, and the same marks as between words
-pub record Same (b c d : ℕ) : Type 0 where
-  pub blank : kind_of b ≡ 1 → ⊥
+pub record Onset (b c d : ℕ) : Type 0 where
+  pub blank : blank b ≡ false
   pub bang : b ≡ 33 → ⊥
   pub joins : b ≡ 92 → ends_line c d ≡ false
 
-module _ (b c d : ℕ) (h : Same b c d) (n : b ≡ 13 → c ≡ 10 → ⊥) where
+module _ (b c d : ℕ) (h : Onset b c d) (n : b ≡ 13 → c ≡ 10 → ⊥) where
   same_step : step Start b c d ≡ step Space b c d
-  unfolding step kind_of class_of
+  unfolding step blank class_of
   same_step = rw (ends_feed b c n) (go (eqb b 10) (eqb b 32) (eqb b 9) (eqb b 33) (eqb b 92) (ends_line c d) (eqb b 47) (eqb c 47) refl refl refl refl refl)
     where
       go : (l t u v w x y z : Bool) → eqb b 32 ≡ t → eqb b 9 ≡ u → eqb b 33 ≡ v → eqb b 92 ≡ w → ends_line c d ≡ x →
           cond l (at_feed Start) (at_other Start (cond t Blank (cond u Blank (cond v Bang (cond w (cond x Join Other) (cond y (cond z Slashes Other) (cond l Blank Other)))))) b) ≡
           cond l (at_feed Space) (at_other Space (cond t Blank (cond u Blank (cond v Bang (cond w (cond x Join Other) (cond y (cond z Slashes Other) (cond l Blank Other)))))) b)
       go true t u v w x y z p q r i j = refl
-      go false true u v w x y z p q r i j = absurd (h.blank (rw p refl))
-      go false false true v w x y z p q r i j = absurd (h.blank (rw (p, q) refl))
+      go false true u v w x y z p q r i j = absurd (no (sym h.blank ∙ rw p))
+      go false false true v w x y z p q r i j = absurd (no (sym h.blank ∙ rw (p, q)))
       go false false false true w x y z p q r i j = absurd (h.bang (eqb-true _ _ r))
       go false false false false true true y z p q r i j = absurd (no (sym (h.joins (eqb-true _ _ i)) ∙ j))
       go false false false false true false y z p q r i j = refl
@@ -395,15 +413,15 @@ module _ (b c d : ℕ) (h : Same b c d) (n : b ≡ 13 → c ≡ 10 → ⊥) wher
 
   -- the rest of a line after its first byte that is no blank: no heading
   same_mark : (r : List ℕ) → heading ((step Start b c d).0 ∷ marks (step Start b c d).1 r) ≡ false
-  unfolding step kind_of class_of heading
+  unfolding step blank class_of heading
   same_mark r = rw (ends_feed b c n) (go (eqb b 10) (eqb b 32) (eqb b 9) (eqb b 33) (eqb b 92) (ends_line c d) (eqb b 47) (eqb c 47) refl refl refl refl refl)
     where
       go : (l t u v w x y z : Bool) → eqb b 32 ≡ t → eqb b 9 ≡ u → eqb b 33 ≡ v → eqb b 92 ≡ w → ends_line c d ≡ x →
           heading ((cond l (at_feed Start) (at_other Start (cond t Blank (cond u Blank (cond v Bang (cond w (cond x Join Other) (cond y (cond z Slashes Other) (cond l Blank Other)))))) b)).0 ∷
           marks (cond l (at_feed Start) (at_other Start (cond t Blank (cond u Blank (cond v Bang (cond w (cond x Join Other) (cond y (cond z Slashes Other) (cond l Blank Other)))))) b)).1 r) ≡ false
       go true t u v w x y z p q i j k = refl
-      go false true u v w x y z p q i j k = absurd (h.blank (rw p refl))
-      go false false true v w x y z p q i j k = absurd (h.blank (rw (p, q) refl))
+      go false true u v w x y z p q i j k = absurd (no (sym h.blank ∙ rw p))
+      go false false true v w x y z p q i j k = absurd (no (sym h.blank ∙ rw (p, q)))
       go false false false true w x y z p q i j k = absurd (h.bang (eqb-true _ _ i))
       go false false false false true true y z p q i j k = absurd (no (sym (h.joins (eqb-true _ _ j)) ∙ k))
       go false false false false true false y z p q i j k = refl
@@ -424,18 +442,18 @@ unfolding heading
 heading_ends r = refl
 
 -- the marks of a line from its first byte that is no blank on: no heading, and the same as between words
-same_marks : (s : List ℕ) (i : ℕ) → i < length s → Same (get_or s i 0) (first (drop (i + 1) s)) (first (drop (i + 2) s)) →
+same_marks : (s : List ℕ) (i : ℕ) → i < length s → Onset (get_or s i 0) (first (drop (i + 1) s)) (first (drop (i + 2) s)) →
     (marks Start (drop i s) ≡ marks Space (drop i s)) × (heading (marks Start (drop i s)) ≡ false)
 same_marks s i h e = go (eqb (get_or s i 0) 13 && eqb (first (drop (i + 1) s)) 10) refl
   where
     go : (t : Bool) → (eqb (get_or s i 0) 13 && eqb (first (drop (i + 1) s)) 10) ≡ t →
         (marks Start (drop i s) ≡ marks Space (drop i s)) × (heading (marks Start (drop i s)) ≡ false)
     go true p =
-        let w = pair_yes true (get_or s i 0) (first (drop (i + 1) s)) 13 10 (sym p) refl in
+        let w = pair_yes (get_or s i 0) (first (drop (i + 1) s)) 13 10 p in
         let x = return_marks Start s i (λ b. refl) refl h w.0 w.1 in
         (x ∙ sym (return_marks Space s i (λ b. refl) refl h w.0 w.1), rw x (heading_ends _))
     go false p =
-        let n = pair_no false (get_or s i 0) (first (drop (i + 1) s)) 13 10 (sym p) refl in
+        let n = pair_no (get_or s i 0) (first (drop (i + 1) s)) 13 10 p in
         (rw (marks_at Start s i h, marks_at Space s i h, same_step _ _ _ e n), rw (marks_at Start s i h) (same_mark _ _ _ e n _))
 
 module _ (s : List ℕ) (from n i m : ℕ) (v : Opened s from n i m) where
@@ -468,9 +486,9 @@ module _ (s : List ℕ) (from n i m : ℕ) (v : Opened s from n i m) where
           onto = v.onto ∙ rw (marks_at Start s i h, x, lines_bang);
         }
 
-    pub opened_same : Same (get_or s i 0) (first (drop (i + 1) s)) (first (drop (i + 2) s)) → Opens s from n false i m
+    pub opened_onset : Onset (get_or s i 0) (first (drop (i + 1) s)) (first (drop (i + 2) s)) → Opens s from n false i m
     unfolding left ahead
-    opened_same e =
+    opened_onset e =
         let w = same_marks s i h e in
         record { low = v.low; high = v.high; few = v.few; grow = v.grow; mark = v.mark ∙ w.1; text = v.text ∙ rw w.0; onto = v.onto ∙ rw w.0 }
 
@@ -487,6 +505,87 @@ module _ (s : List ℕ) (from n i m : ℕ) (v : Opened s from n i m) where
           text = v.text ∙ rw (marks_at Start s i h, x, words_gap) (g.text ∙ w.text₀);
           onto = v.onto ∙ rw (marks_at Start s i h, x, lines_gap) (g.onto m ∙ w.onto₀ (m + 1));
         }
+
+-- the loop of `skip_joins`
+pub record Joining (s : List ℕ) (from n i m : ℕ) : Type 0 where
+  pub between : Between s from n i m
+  pub opened : Opened s from n i m
+  pub stop : i < length s → blank (get_or s i 0) ≡ false
+
+pub joining_start : (s : List ℕ) (from n i : ℕ) → n ≤ from + 1 → Skipped s from i → Joining s from n i n
+joining_start s from n i h k = record { between = between_skip s from n i h k.blanks; opened = opened_skip s from n i h k.blanks; stop = k.stop }
+
+module _ (s : List ℕ) (from n i m : ℕ) (v : Joining s from n i m) (r : Option ℕ) (e : r ≡ join_end s i) where
+  joins_at : (z : ℕ) → r ≡ Some z → JoinAt s i z
+  joins_at z h = join_some s i z (sym e ∙ h)
+
+  pub joining_high : (z : ℕ) → r ≡ Some z → (i < length s) × (z ≤ length s)
+  joining_high z h = let u = joins_at z h in (omega (arith, u.feed.low, u.feed.high), u.feed.high)
+
+  pub joining_more : (z j : ℕ) → r ≡ Some z → Skipped s z j → Joining s from n j (m + 1)
+  joining_more z j h k =
+      let u = joins_at z h in
+      let l = (joining_high z h).0 in
+      record {
+        between = between_joined s from n i m v.between l z j u k.blanks;
+        opened = opened_joined s from n i m v.opened l z j u k.blanks;
+        stop = k.stop;
+      }
+
+  -- a line end that is joined takes a byte
+  pub joining_less : (z j : ℕ) → r ≡ Some z → Skipped s z j → length s - j < length s - i
+  joining_less z j h k = let u = joins_at z h in omega (arith, u.feed.low, u.feed.high, k.blanks.low, k.blanks.high)
+
+  pub joining_end : r ≡ None → SkippedJoins s from n i m
+  joining_end h = record { between = v.between; opened = v.opened; stop = v.stop; joins = sym e ∙ h }
+
+-- two slashes at the front of a text
+slashes : (xs : List ℕ) → pointwise eqb (47 ∷ 47 ∷ []) (take 2 xs) ≡ true → (get_or xs 0 0 ≡ 47) × (get_or xs 1 0 ≡ 47)
+slashes [] h = absurd (no h)
+slashes (x ∷ []) h = absurd (no (and_both (eqb 47 x) false h).1)
+slashes (x ∷ y ∷ xs) h =
+    let w = and_both (eqb 47 x) (eqb 47 y && true) h in
+    (sym (eqb-true _ _ w.0), sym (eqb-true _ _ (and_both (eqb 47 y) true w.1).0))
+
+no_slashes : (xs : List ℕ) → pointwise eqb (47 ∷ 47 ∷ []) (take 2 xs) ≡ false → get_or xs 0 0 ≡ 47 → get_or xs 1 0 ≡ 47 → ⊥
+no_slashes [] h a b = omega arith
+no_slashes (x ∷ []) h a b = omega arith
+no_slashes (x ∷ y ∷ xs) h a b = no (sym h ∙ rw (a, b) refl)
+
+-- what stands behind blanks and joins
+module _ (s : List ℕ) (from n i m : ℕ) (v : SkippedJoins s from n i m) where
+  pub opens_bang : first (drop i s) ≡ 33 → Opens s from n true (i + 1) m
+  opens_bang e = let b = sym (first_drop s i) ∙ e in opened_bang s from n i m v.opened (byte_in s i 33 b (omega arith)) b
+
+  pub opens_words : (first (drop i s) ≡ 33 → ⊥) → Opens s from n false i m
+  opens_words b = go (ltb i (length s)) refl
+    where
+      go : (t : Bool) → ltb i (length s) ≡ t → Opens s from n false i m
+      go true p =
+          let h = ltb-true _ _ p in
+          opened_onset s from n i m v.opened h (record { blank = v.stop h; bang = λ e. b (first_drop s i ∙ e); joins = join_no s i v.joins })
+      go false p = opened_end s from n i m v.opened (ltb-false _ _ p)
+
+  module _ (r : Bool) (e : r ≡ pointwise eqb (47 ∷ 47 ∷ []) (take 2 (tail s i))) where
+    note : r ≡ true → (get_or s i 0 ≡ 47) × (first (drop (i + 1) s) ≡ 47)
+    note t =
+        let w = slashes (tail s i) (sym e ∙ t) in
+        let z : i + 0 ≡ i = omega arith in
+        (rw z at (sym (tail_at s i 0) ∙ w.0), first_drop s (i + 1) ∙ (sym (tail_at s i 1) ∙ w.1))
+
+    no_note : r ≡ false → get_or s i 0 ≡ 47 → first (drop (i + 1) s) ≡ 47 → ⊥
+    no_note t a b =
+        let z : i + 0 ≡ i = omega arith in
+        no_slashes (tail s i) (sym e ∙ t) (rw (tail_at s i 0, z) a) (tail_at s i 1 ∙ (sym (first_drop s (i + 1)) ∙ b))
+
+    pub over_note : (z : ℕ) → i < length s → r ≡ true → CommentEnd s (i + 1) z → NoWord s from n z (m + 1)
+    over_note z h t w = let x = note t in between_note s from n i m v.between h z x.0 x.1 w
+
+    pub over_word : (z f : ℕ) → i < length s → r ≡ false → feed_end s i ≡ None → WordEnd s (i + 1) z → f ≡ fault_of (part s i z) → FoundWord s from n i z m f
+    over_word z f h t k w g =
+        between_word s from n i m v.between h z f
+        (record { blank = v.stop h; feed = feed_no s i k; joins = join_no s i v.joins; note = no_note t })
+        (record { ends = w; fault = g })
 
 -- the refusals of a line's words
 
@@ -532,18 +631,6 @@ pub fault_nil : words_fault [] ≡ 0
 unfolding words_fault any_of
 fault_nil = refl
 
-pub found : (s : List ℕ) (i n : ℕ) (r : Next) (a e m f : ℕ) → r ≡ Found a e m f → NextWord s i n r → FoundWord s i n a e m f
-found s i n r a e m f q h = rw q at h
-
-pub plainly : (s : List ℕ) (f i : ℕ) (r : PlainRead) (a e : ℕ) → r ≡ plain.Word a e → PlainWord s f i r → PlainFound s f i a e
-plainly s f i r a e q h = rw q at h
-
-pub valued : (s : List ℕ) (f i : ℕ) (r : PlainRead) (a e : ℕ) → r ≡ plain.Word a e → ValueWord s f i r → PlainFound s f i a e × (any_of (λ b. eqb b 37) (part s a e) ≡ false)
-valued s f i r a e q h = rw q at h
-
-pub stopped : (s : List ℕ) (i n : ℕ) (r : Next) (p m : ℕ) → r ≡ Stop p m → NextWord s i n r → NoWord s i n p m
-stopped s i n r p m q h = rw q at h
-
 -- the line that starts at a position, and the lines after it
 unfoldable pub line_at : ℕ → List Mark → Line
 line_at n l = record { number = n; is_heading = heading l; text = words false l }
@@ -553,7 +640,6 @@ pub line_first : (s : List ℕ) (n at : ℕ) → at < length s →
 unfolding lines_of line_at
 line_first s n at h = rw (marks_at Start s at h)
 
--- the table's entries as a flag
 -- the fence
 
 module _ (s : List ℕ) (f i : ℕ) (v : Fenced s f) (h : i < f) where
@@ -573,28 +659,8 @@ module _ (s : List ℕ) (f i : ℕ) (v : Fenced s f) (h : i < f) where
   pub fence_plain : bad_byte (get_or s i 0) ≡ false → i + 1 < f
   fence_plain b = fence_more (λ e. omega (arith, (not_bad _ b).least, e))
 
-  pub fence_blank : kind_of (get_or s i 0) ≡ 1 → i + 1 < f
-  fence_blank k = fence_more (eqb-false _ _ (kind_one (get_or s i 0) 0 0 k).1)
-
--- a line end that is joined stands before the fence
-joined_high : (s : List ℕ) (f i z : ℕ) → Fenced s f → i < f → JoinAt s i z → z ≤ f
-joined_high s f i z v h u =
-    let k : i + 1 < f = fence_more s f i v h (differ _ 92 10 refl u.slash) in
-    ⊎_elim
-    (λ (w : (z ≡ i + 1 + 1) × (get_or s (i + 1) 0 ≡ 10)). omega (arith, w.0))
-    (λ (w : (z ≡ i + 1 + 2) × ((get_or s (i + 1) 0 ≡ 13) × (get_or s (i + 1 + 1) 0 ≡ 10))).
-    omega (arith, w.0, fence_more s f (i + 1) v k (differ _ 13 10 refl w.1.0)))
-    u.feed.cases
-
-pub fence_joined : (s : List ℕ) (f i z : ℕ) → Fenced s f → i < f → JoinAt s i z → z < f
-fence_joined s f i z v h u = go (eqb z f) refl
-  where
-    go : (t : Bool) → eqb z f ≡ t → z < f
-    go true q =
-        let x = eqb-true z f q in
-        let k : 0 < f = omega (arith, h) in
-        absurd (no (sym (v.free k) ∙ rw x at (slash_join s i z u).0))
-    go false q = let x = eqb-false z f q in omega (arith, joined_high s f i z v h u)
+  pub fence_blank : blank (get_or s i 0) ≡ true → i + 1 < f
+  fence_blank k = fence_more (blank_class (get_or s i 0) 0 0 k).1
 
 pub fenced_none : (s : List ℕ) → Fenced s 0
 fenced_none s = record { high = omega arith; last = λ h. absurd (omega (arith, h)); free = λ h. absurd (omega (arith, h)) }
@@ -612,120 +678,106 @@ fence_part s f from v =
           slash_drop s from (f - from - 1) (rw q at (v.free (omega (arith, h))));
     }
 
--- the loop of `run_end`, and of `skip_fast`
-pub record FastRun (s : List ℕ) (f m from i : ℕ) : Type 0 where
+-- the fence of the bytes from a place on
+pub fence_rest : (s : List ℕ) (f from n : ℕ) → Fenced s f → n ≡ f - from → Fenced (take (length s - from) (drop from s)) n
+fence_rest s f from n v e = rw (e, sym (length-drop from s), take-length) (fence_part s f from v)
+
+-- the loop of `run_end`
+pub record FastRun (s : List ℕ) (f : ℕ) (m : Kind) (from i : ℕ) : Type 0 where
   pub run : Run s from i
-  pub below : all_of (λ b. leb (level_of b) m) (part s from i) ≡ true
+  pub below : all_of (λ b. leb (rank (kind_of b)) (rank m)) (part s from i) ≡ true
   pub inside : i < f
 
-pub fast_start : (s : List ℕ) (f m from : ℕ) → Fenced s f → from < f → FastRun s f m from from
+pub fast_start : (s : List ℕ) (f : ℕ) (m : Kind) (from : ℕ) → Fenced s f → from < f → FastRun s f m from from
 fast_start s f m from v h = record { run = run_start s from (omega (arith, h, v.high)); below = rw (part_empty s from, all_nil); inside = h }
 
-pub fast_more : (s : List ℕ) (f m from i : ℕ) → Fenced s f → m ≤ 1 → FastRun s f m from i → level_of (get_or s i 0) ≤ m → FastRun s f m from (i + 1)
+pub fast_more : (s : List ℕ) (f : ℕ) (m : Kind) (from i : ℕ) → Fenced s f → rank m ≤ 2 → FastRun s f m from i → rank (kind_of (get_or s i 0)) ≤ rank m → FastRun s f m from (i + 1)
 fast_more s f m from i v k w b =
-    let c = level_clean (get_or s i 0) m k b in
+    let c = rank_clean (get_or s i 0) (rank m) k b in
     let h : i < length s = omega (arith, w.inside, v.high) in
     record {
       run = run_more s from i w.run h c;
-      below = rw (part_snoc s from i w.run.read.low h) (all_snoc (λ x. leb (level_of x) m) _ _ w.below (le-leb (level_of (get_or s i 0)) m b));
+      below = rw (part_snoc s from i w.run.read.low h) (all_snoc (λ x. leb (rank (kind_of x)) (rank m)) _ _ w.below (le-leb _ _ b));
       inside = fence_plain s f i v w.inside c;
     }
 
-fast_at : (s : List ℕ) (f m from j k : ℕ) → j ≡ k → FastRun s f m from j → FastRun s f m from k
+fast_at : (s : List ℕ) (f : ℕ) (m : Kind) (from j k : ℕ) → j ≡ k → FastRun s f m from j → FastRun s f m from k
 fast_at s f m from j k e v = rw e at v
 
-module _ (s : List ℕ) (f m from i : ℕ) (v : Fenced s f) (k : m ≤ 1) (w : FastRun s f m from i) (b : level_of (get_or s i 0) ≤ m) where
-  pub fast_two : level_of (get_or s (i + 1) 0) ≤ m → FastRun s f m from (i + 2)
+module _ (s : List ℕ) (f : ℕ) (m : Kind) (from i : ℕ) (v : Fenced s f) (k : rank m ≤ 2) (w : FastRun s f m from i) (b : rank (kind_of (get_or s i 0)) ≤ rank m) where
+  pub fast_two : rank (kind_of (get_or s (i + 1) 0)) ≤ rank m → FastRun s f m from (i + 2)
   fast_two b₁ = fast_at s f m from (i + 1 + 1) (i + 2) (omega arith) (fast_more s f m from (i + 1) v k (fast_more s f m from i v k w b) b₁)
 
-  pub fast_three : level_of (get_or s (i + 1) 0) ≤ m → level_of (get_or s (i + 2) 0) ≤ m → FastRun s f m from (i + 3)
+  pub fast_three : rank (kind_of (get_or s (i + 1) 0)) ≤ rank m → rank (kind_of (get_or s (i + 2) 0)) ≤ rank m → FastRun s f m from (i + 3)
   fast_three b₁ b₂ = fast_at s f m from (i + 2 + 1) (i + 3) (omega arith) (fast_more s f m from (i + 2) v k (fast_two b₁) b₂)
 
-  pub fast_four : level_of (get_or s (i + 1) 0) ≤ m → level_of (get_or s (i + 2) 0) ≤ m → level_of (get_or s (i + 3) 0) ≤ m → FastRun s f m from (i + 4)
+  pub fast_four : rank (kind_of (get_or s (i + 1) 0)) ≤ rank m → rank (kind_of (get_or s (i + 2) 0)) ≤ rank m → rank (kind_of (get_or s (i + 3) 0)) ≤ rank m → FastRun s f m from (i + 4)
   fast_four b₁ b₂ b₃ = fast_at s f m from (i + 3 + 1) (i + 4) (omega arith) (fast_more s f m from (i + 3) v k (fast_three b₁ b₂) b₃)
 
-pub fast_stop : (s : List ℕ) (f m from i : ℕ) → FastRun s f m from i → m < level_of (get_or s i 0) → RunEnd s m from i × (i < f)
+pub fast_stop : (s : List ℕ) (f : ℕ) (m : Kind) (from i : ℕ) → FastRun s f m from i → rank m < rank (kind_of (get_or s i 0)) → RunEnd s m from i × (i < f)
 fast_stop s f m from i w b = (record { read = w.run.read; clean = w.run.clean; below = w.below; stop = b }, w.inside)
 
-pub over_level : (r l m : ℕ) → r ≡ l → m < r → m < l
-over_level r l m e h = omega arith
-
-pub run_plain : (s : List ℕ) (from i : ℕ) → RunEnd s 1 from i → PlainEnd s from i
-run_plain s from i v = record { read = v.read; clean = v.clean; stop = λ h. level_bad (get_or s i 0) v.stop }
-
 -- a plain word, from its first byte on
-pub value_found : (s : List ℕ) (f from i p : ℕ) → Fenced s f → Skipped s from i → i < f → kind_of (get_or s i 0) ≡ 0 → (get_or s i 0 ≡ 37 → ⊥) →
-    RunEnd s 0 (i + 1) p → p < f → (kind_of (get_or s p 0) ≡ 0 → ⊥) → ends_plain (get_or s p 0) (first (drop (p + 1) s)) ≡ true → p ≤ i + 256 →
-    PlainFound s f from i p × (any_of (λ b. eqb b 37) (part s i p) ≡ false)
-unfolding any_of
-value_found s f from i p v k h z y r l m n o =
-    let a = fence_in s f i v h in
-    let e : PlainEnd s (i + 1) p = record { read = r.read; clean = r.clean; stop = λ q. ends_bad (get_or s p 0) _ m n } in
-    let lo : i < p = omega (arith, r.read.low) in (
+module _ (s : List ℕ) (f : ℕ) (m : Kind) (i : ℕ) (v : Fenced s f) (h : i < f) (b : begins_plain (get_or s i 0) (first (drop (i + 1) s)) ≡ true) where
+  pub plain_inside : i + 1 < f
+  plain_inside = fence_plain s f i v h (plain_begins _ _ 0 b).1
+
+  pub plain_whole : (e : ℕ) → RunEnd s m (i + 1) e → e < f → ends_plain (get_or s e 0) (first (drop (e + 1) s)) ≡ true → e ≤ i + 256 → PlainWhole s f m i e
+  plain_whole e r l n o =
       record {
-        found = λ q j.
-            between_word s from q i q (between_skip s from q i j k.blanks) a p 0 (kind_zero (get_or s i 0) (first (drop (i + 1) s)) (first (drop (i + 2) s)) z).0
-            (plain_word s i p a (kind_zero (get_or s i 0) 0 0 z).1 e (fence_in s f p v l) n o);
+        word = plain_word s i e (fence_in s f i v h) (plain_begins _ _ 0 b).1 (record { read = r.read; clean = r.clean }) (fence_in s f e v l) n o;
         inside = l;
-      },
-      rw (part_cons s i p lo r.read.high) (first_none (eqb (get_or s i 0) 37) refl (none_percent (part s (i + 1) p) r.below)),
-    )
-  where
-    first_none : (t : Bool) → eqb (get_or s i 0) 37 ≡ t → any_of (λ b. eqb b 37) (part s (i + 1) p) ≡ false →
-        any_of (λ b. eqb b 37) (get_or s i 0 ∷ part s (i + 1) p) ≡ false
-    first_none true e g = absurd (y (eqb-true _ _ e))
-    first_none false e g = rw (e, g) refl
+        below = r.below;
+      }
 
--- a byte of kind 1 or 2 has the highest level
-kind_level : (b : ℕ) → (kind_of b ≡ 0 → ⊥) → kind_of b ≤ 2 → 0 < level_of b
-unfolding level_of
-kind_level b n l = rw (ends_bad b 0 n (low_ends b 0 l)) (omega arith)
+  -- with blanks before it
+  pub plain_found : (from e : ℕ) → Blanks s from i → PlainWhole s f m i e → PlainFound s f from i e
+  plain_found from e k w =
+      record {
+        found = λ n j. between_word s from n i n (between_skip s from n i j k) (fence_in s f i v h) e 0 (plain_begins _ _ _ b).0 w.word;
+        inside = w.inside;
+      }
 
-pub byte_next : (s : List ℕ) (f i b : ℕ) → Fenced s f → i < f → get_or s i 0 ≡ b → kind_of b ≡ 0 → i + 1 < length s
-byte_next s f i b v h e z =
-    let p : kind_of (get_or s i 0) ≡ 0 = rw e z in
-    fence_in s f (i + 1) v (fence_plain s f i v h (kind_zero (get_or s i 0) 0 0 p).1)
+pub value_plain : (s : List ℕ) (f i e : ℕ) → i < length s → kind_of (get_or s i 0) ≡ kind.Plain → PlainWhole s f kind.Slash i e → any_of (λ b. eqb b 37) (part s i e) ≡ false
+value_plain s f i e h k w =
+    rw (part_cons s i e (omega (arith, w.word.ends.low)) w.word.ends.high, any_cons, ne_eqb _ 37 (meant _ kind.Plain k).2) (none_percent _ w.below)
+
+pub byte_next : (s : List ℕ) (f i b : ℕ) → Fenced s f → i < f → get_or s i 0 ≡ b → kind_of b ≡ kind.Plain → i + 1 < f
+byte_next s f i b v h e z = fence_plain s f i v h (rw e (meant b kind.Plain z).0)
 
 -- a word of one byte
-pub byte_found : (s : List ℕ) (f from i b : ℕ) → Fenced s f → Skipped s from i → i < f → get_or s i 0 ≡ b → kind_of b ≡ 0 → (b ≡ 37 → ⊥) →
-    (kind_of (get_or s (i + 1) 0) ≡ 0 → ⊥) → kind_of (get_or s (i + 1) 0) ≤ 2 → ByteWord s f from b (i + 1)
-byte_found s f from i b v k h e z y m n =
-    let a = fence_in s f i v h in
-    let p : kind_of (get_or s i 0) ≡ 0 = rw e z in
-    let l : i + 1 < f = fence_plain s f i v h (kind_zero (get_or s i 0) 0 0 p).1 in
-    let r = fast_stop s f 0 (i + 1) (i + 1) (fast_start s f 0 (i + 1) v l) (kind_level (get_or s (i + 1) 0) m n) in
+pub byte_alone : (s : List ℕ) (f from i b : ℕ) → Fenced s f → Blanks s from i → i < f → get_or s i 0 ≡ b → kind_of b ≡ kind.Plain →
+    ends_plain (get_or s (i + 1) 0) (first (drop (i + 1 + 1) s)) ≡ true → ByteWord s f from b (i + 1)
+byte_alone s f from i b v k h e z n =
+    let p : begins_plain (get_or s i 0) (first (drop (i + 1) s)) ≡ true = rw e (plain_kind b _ z) in
+    let l = byte_next s f i b v h e z in
+    let w : PlainWhole s f kind.Percent i (i + 1) =
+    record {
+      word = plain_word s i (i + 1) (fence_in s f i v h) (plain_begins _ _ 0 p).1 (run_start s (i + 1) (omega (arith, v.high))) (fence_in s f (i + 1) v l) n (omega arith);
+      inside = l;
+      below = rw (part_empty s (i + 1), all_nil);
+    } in
     record {
       start = i;
-      word = (value_found s f from i (i + 1) v k h p (λ q. y (sym e ∙ q)) r.0 l m (low_ends _ _ n) (omega arith)).0;
+      word = plain_found s f kind.Percent i v h p from (i + 1) k w;
       text = part_cons s i (i + 1) (omega arith) (omega (arith, fence_in s f (i + 1) v l)) ∙ rw (e, part_empty s (i + 1)) refl;
     }
 
+-- the loop of `skip_blanks`
 pub record FastBlanks (s : List ℕ) (f from i : ℕ) : Type 0 where
   pub run : Blanks s from i
   pub inside : i < f
 
-pub gaps_more : (s : List ℕ) (f from i : ℕ) → Fenced s f → FastBlanks s f from i → kind_of (get_or s i 0) ≡ 1 → FastBlanks s f from (i + 1)
+pub gaps_more : (s : List ℕ) (f from i : ℕ) → Fenced s f → FastBlanks s f from i → blank (get_or s i 0) ≡ true → FastBlanks s f from (i + 1)
 gaps_more s f from i v w k = record { run = blanks_more s from i w.run (omega (arith, w.inside, v.high)) k; inside = fence_blank s f i v w.inside k }
 
-pub gaps_stop : (s : List ℕ) (f from i : ℕ) → FastBlanks s f from i → (kind_of (get_or s i 0) ≡ 1 → ⊥) → Skipped s from i × (i < f)
+pub gaps_stop : (s : List ℕ) (f from i : ℕ) → FastBlanks s f from i → (blank (get_or s i 0) ≡ false) → Skipped s from i × (i < f)
 gaps_stop s f from i w k = (blanks_stop s from i w.run k, w.inside)
 
-pub gaps_two : (s : List ℕ) (f from i : ℕ) → Fenced s f → FastBlanks s f from i → kind_of (get_or s i 0) ≡ 1 → kind_of (get_or s (i + 1) 0) ≡ 1 → FastBlanks s f from (i + 2)
+pub gaps_two : (s : List ℕ) (f from i : ℕ) → Fenced s f → FastBlanks s f from i → blank (get_or s i 0) ≡ true → blank (get_or s (i + 1) 0) ≡ true → FastBlanks s f from (i + 2)
 gaps_two s f from i v w k k₁ =
     let q : i + 1 + 1 ≡ i + 2 = omega arith in
     rw q at (gaps_more s f from (i + 1) v (gaps_more s f from i v w k) k₁)
-
--- from where words are looked for, and at a byte that is no blank
-pub record At (s : List ℕ) (from n i m : ℕ) : Type 0 where
-  pub between : Between s from n i m
-  pub stop : i < length s → kind_of (get_or s i 0) ≡ 1 → ⊥
-
-pub record FastAt (s : List ℕ) (f from n i m : ℕ) : Type 0 where
-  pub between : Between s from n i m
-  pub inside : i < f
-
-pub at_most : (r k m : ℕ) → r ≡ k → r ≤ m → k ≤ m
-at_most r k m e h = omega arith
 
 pub between_then : (s : List ℕ) (from n i m : ℕ) (r : Next) → Between s from n i m → NextWord s i m r → NextWord s from n r
 between_then s from n i m (Found a e m' f) v w =
@@ -736,16 +788,31 @@ between_then s from n i m (Stop p m') v w =
 pub between_none : (s : List ℕ) (from n : ℕ) → from ≤ length s → n ≤ from + 1 → Between s from n from n
 between_none s from n h k = record { low = omega arith; high = h; few = k; grow = omega arith; text = refl; onto = refl }
 
-pub record OpenAt (s : List ℕ) (from n i m : ℕ) : Type 0 where
-  pub opened : Opened s from n i m
-  pub stop : i < length s → kind_of (get_or s i 0) ≡ 1 → ⊥
+-- For the crates that read by numbers still: these go when the last of them has moved.
 
--- what was made out before the fence, taken apart
-pub made_word : (s : List ℕ) (i n : ℕ) (r : Fast) (a e m : ℕ) → r ≡ fast.Word a e m → FastWord s i n r → FoundWord s i n a e m 0
-made_word s i n r a e m q h = rw q at h
+pub found : (s : List ℕ) (i n : ℕ) (r : old.Next) (a e m f : ℕ) → r ≡ of_old.Found a e m f → NextOld s i n r → FoundWord s i n a e m f
+found s i n r a e m f q h = rw q at h
 
-pub made_end : (s : List ℕ) (i n : ℕ) (r : Fast) (p m : ℕ) → r ≡ fast.End p m → FastWord s i n r → NoWord s i n p m
-made_end s i n r p m q h = rw q at h
+pub stopped : (s : List ℕ) (i n : ℕ) (r : old.Next) (p m : ℕ) → r ≡ of_old.Stop p m → NextOld s i n r → NoWord s i n p m
+stopped s i n r p m q h = rw q at h
 
-pub made_rest : (s : List ℕ) (i n : ℕ) (r : Fast) (p m : ℕ) → r ≡ fast.Rest p m → FastWord s i n r → Between s i n p m
-made_rest s i n r p m q h = rw q at h
+pub plainly : (s : List ℕ) (f i : ℕ) (r : PlainRead) (a e : ℕ) → r ≡ plain.Word a e → PlainOld s f i r → PlainFound s f i a e
+plainly s f i r a e q h = rw q at h
+
+pub valued : (s : List ℕ) (f i : ℕ) (r : PlainRead) (a e : ℕ) → r ≡ plain.Word a e → ValueOld s f i r → PlainFound s f i a e × (any_of (λ b. eqb b 37) (part s a e) ≡ false)
+valued s f i r a e q h = rw q at h
+
+not_true : (t : Bool) → (t ≡ true → ⊥) → t ≡ false
+not_true true h = absurd (h refl)
+not_true false h = refl
+
+pub record Same (b c d : ℕ) : Type 0 where
+  pub blank : kind_number b ≡ 1 → ⊥
+  pub bang : b ≡ 33 → ⊥
+  pub joins : b ≡ 92 → ends_line c d ≡ false
+
+pub opened_same : (s : List ℕ) (from n i m : ℕ) → Opened s from n i m → i < length s → Same (get_or s i 0) (first (drop (i + 1) s)) (first (drop (i + 2) s)) → Opens s from n false i m
+opened_same s from n i m v h e = opened_onset s from n i m v h (record { blank = not_true _ (λ k. e.blank (blank_number _ k)); bang = e.bang; joins = e.joins })
+
+pub skipped_old : (s : List ℕ) (at r : ℕ) → Skipped s at r → SkippedOld s at r
+skipped_old s at r v = record { blanks = v.blanks; stop = λ h k. no (sym (v.stop h) ∙ number_blank _ k) }

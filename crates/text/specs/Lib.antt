@@ -3,5 +3,8 @@ pub mod Bytes
 pub mod Marks
 pub mod Lines
 pub mod Words
+pub mod Kinds
 pub mod Refusals
+pub mod Told
 pub mod Reading
+pub mod Sources

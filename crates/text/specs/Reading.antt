@@ -1,15 +1,13 @@
 -- What the readers of lines and words promise: each says what becomes of the words of this line, and of the lines after it.
-use Rattle.std.specs.Prelude.{◌≡◌, ℕ, zero, suc, min, ◌+◌, ◌-◌, ◌≤◌, ◌<◌, List, [], ◌∷◌, ◌++◌, Bool, true, false, not, ◌||◌, ◌&&◌, cond, eqb, ltb, leb, length, drop, get_or}
+use Rattle.std.specs.Prelude.{◌≡◌, ℕ, zero, suc, min, ◌+◌, ◌-◌, ◌≤◌, ◌<◌, List, [], ◌∷◌, ◌++◌, Bool, true, false, ◌&&◌, cond, eqb, ltb, length, drop, get_or}
 use Rattle.text.specs.declared.Class.{Class}
 use Rattle.text.specs.declared.Class.TheVariants.{Blank, Join, Slashes, Bang, Other}
 use Rattle.text.specs.declared.Next.{Next}
 use Rattle.text.specs.declared.Next.TheVariants.{Found, Stop}
-use Rattle.text.specs.declared.Fast.{Fast}
-use Rattle.text.specs.declared.Fast.TheVariants as fast
 use Rattle.text.specs.declared.Plain.{Plain}
 use Rattle.text.specs.declared.Plain.TheVariants as plain
 use Rattle.text.specs.declared.Place.TheVariants.{Start, Space, Word, Comment}
-use Rattle.text.specs.Bytes.{Words, first, all_of, any_of, part}
+use Rattle.text.specs.Bytes.{Words, first, any_of, part}
 use Rattle.text.specs.Marks.{ends_line, class_of, marks}
 use Rattle.text.specs.Lines.{run, words, heading, Line, lines_of}
 use Rattle.text.specs.Words.{bad_byte, too_long}
@@ -35,10 +33,6 @@ feed_end s i =
     cond (eqb (first (drop i s)) 10) (i + 1)
     (cond (ends_line (first (drop i s)) (first (drop (i + 1) s))) (i + 2) 0)
 
--- behind the line end that a backslash at i joins; 0 where it joins none
-unfoldable pub join_end : List ℕ → ℕ → ℕ
-join_end s i = cond (eqb (get_or s i 0) 92) (feed_end s (i + 1)) 0
-
 -- the lines after the one that is being read: from a position in its words on, and from the start of a line on
 unfoldable pub ahead : List ℕ → ℕ → ℕ → List Line
 ahead s at n = lines_of n true (marks Space (drop at s))
@@ -55,24 +49,11 @@ lower zero g = g
 lower (suc f) zero = suc f
 lower (suc f) (suc g) = suc (min f g)
 
--- the level of a byte: 0 a plain byte, 1 a percent sign, 2 a byte that has no place in a plain word
-unfoldable pub level_of : ℕ → ℕ
-level_of b = cond (bad_byte b) 2 (cond (eqb b 37) 1 0)
-
 -- the kind of a byte: 0 a plain byte that is no slash, 1 a blank, 2 LF, 4 CR, 3 any other
 unfoldable pub kind_of : ℕ → ℕ
 kind_of b = cond (eqb b 32) 1 (cond (eqb b 9) 1 (cond (eqb b 10) 2 (cond (bad_byte b) (cond (eqb b 13) 4 3) (cond (eqb b 47) 3 0))))
 
--- the byte b with c behind it begins a plain word: a byte of kind 0, or a slash that begins no comment
-unfoldable pub begins_plain : ℕ → ℕ → Bool
-begins_plain b c = eqb (kind_of b) 0 || (eqb b 47 && not (eqb c 47))
-
--- the byte b with c behind it ends a plain word: a blank or a line end
-unfoldable pub ends_plain : ℕ → ℕ → Bool
-ends_plain b c = leb (kind_of b) 2 || ends_line b c
-
 pub record Table (t : List ℕ) : Type 0 where
-  pub levels : (b : ℕ) → b < 256 → get_or t b 0 ≡ level_of b
   pub kinds : (b : ℕ) → b < 256 → get_or t (256 + b) 0 ≡ kind_of b
 
 -- a backslash stands before the line end whose LF is at i, LF or CR LF
@@ -110,18 +91,6 @@ pub record InWord (s : List ℕ) (from i : ℕ) : Type 0 where
   pub text : run (marks Word (drop from s)) ≡ part s from i ++ run (marks Word (drop i s))
   pub rest : words true (marks Word (drop from s)) ≡ words true (marks Word (drop i s))
   pub onto : (n : ℕ) → lines_of n true (marks Word (drop from s)) ≡ lines_of n true (marks Word (drop i s))
-
-pub record PlainEnd (s : List ℕ) (at r : ℕ) : Type 0 where
-  pub read : InWord s at r
-  pub clean : any_of bad_byte (part s at r) ≡ false
-  pub stop : r < length s → bad_byte (get_or s r 0) ≡ true
-
--- the word that has begun before `at` goes on up to r with bytes of at most the level m, and the byte at r is above it
-pub record RunEnd (s : List ℕ) (m at r : ℕ) : Type 0 where
-  pub read : InWord s at r
-  pub clean : any_of bad_byte (part s at r) ≡ false
-  pub below : all_of (λ b. leb (level_of b) m) (part s at r) ≡ true
-  pub stop : m < level_of (get_or s r 0)
 
 pub record OddWord (s : List ℕ) (at r f : ℕ) : Type 0 where
   pub ends : WordEnd s (at + 1) r
@@ -167,12 +136,6 @@ pub record NoWord (s : List ℕ) (at n p m : ℕ) : Type 0 where
   pub none : left s at ≡ []
   pub onto : ahead s at n ≡ follow s p m
 
--- the first LF from `from` on stands at r
-pub record FirstFeed (s : List ℕ) (from r : ℕ) : Type 0 where
-  pub low : from ≤ r
-  pub feed : get_or s r 0 ≡ 10
-  pub before : (j : ℕ) → from ≤ j → j < r → get_or s j 0 ≡ 10 → ⊥
-
 -- The rest of a line is passed over, from a place where a word would begin: the next line starts at p and has the number m.
 pub record Passed (s : List ℕ) (at n p m : ℕ) : Type 0 where
   pub onwards : min (at + 1) (length s) ≤ p
@@ -188,11 +151,6 @@ pub record Between (s : List ℕ) (at n i m : ℕ) : Type 0 where
   pub grow : m + at ≤ n + i
   pub text : left s at ≡ left s i
   pub onto : ahead s at n ≡ ahead s i m
-
-abbrev pub FastWord : List ℕ → ℕ → ℕ → Fast → Type 0
-FastWord s at n (fast.Word a e m) = FoundWord s at n a e m 0
-FastWord s at n (fast.End p m) = NoWord s at n p m
-FastWord s at n (fast.Rest i m) = Between s at n i m
 
 -- the next word is plain, ends before the fence f, and stands in the same physical line
 pub record PlainFound (s : List ℕ) (f at a e : ℕ) : Type 0 where

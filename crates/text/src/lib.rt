@@ -3,7 +3,10 @@
 
 pub mod bytes;
 pub mod compare;
+pub mod faults;
+pub mod kinds;
 pub mod reader;
+pub mod source;
 pub mod table;
 
 // What a byte other than LF means, by itself and the byte after it.
@@ -35,12 +38,6 @@ pub struct Refusal {
     pub place: usize,
 }
 
-#[derive(Clone, Copy)]
-pub struct WordAt {
-    pub end: usize,
-    pub fault: usize,
-}
-
 // The next word of a line, with the number of the physical line that it stands in and its refusal; or the start of the next line, and its number.
 #[derive(Clone, Copy)]
 pub enum Next {
@@ -52,24 +49,6 @@ pub enum Next {
     },
     Stop {
         next: usize,
-        line: usize,
-    },
-}
-
-// What the reader before the fence makes out: a word that is plain; the line's end; or the place from which any reader has to go on.
-#[derive(Clone, Copy)]
-pub enum Fast {
-    Word {
-        start: usize,
-        end: usize,
-        line: usize,
-    },
-    End {
-        next: usize,
-        line: usize,
-    },
-    Rest {
-        at: usize,
         line: usize,
     },
 }
@@ -93,4 +72,18 @@ pub struct Opening {
 pub struct LineStart {
     pub at: usize,
     pub line: usize,
+}
+
+// A place in a file, and the number of the physical line there.
+#[derive(Clone, Copy)]
+pub struct Spot {
+    pub at: usize,
+    pub line: usize,
+}
+
+// A part of a text: the bytes from `start` up to `end`.
+#[derive(Clone, Copy)]
+pub struct Span {
+    pub start: usize,
+    pub end: usize,
 }

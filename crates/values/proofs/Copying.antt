@@ -4,19 +4,19 @@ use native.Mathlib.Omega.{arith}
 use mathlib.Core.Path.{◌≡◌, refl, sym, ap, ◌∙◌}
 use mathlib.Core.List.{[], ◌∷◌, ◌++◌, append_assoc}
 use mathlib.Core.Bool.{Bool, true, false, cond}
-use lib.ListN.{length, take, drop, set, length-append, length-take, length-drop, length-set}
+use lib.ListN.{length, take, drop, get_or, set, length-append, length-take, length-drop, length-set}
 use lib.Dec.{eqb}
 use borrow.Author.Tests.{ne_eqb, lt-ltb}
 use Rattle.text.specs.Bytes.{Text, bytes, same, first, part}
 use Rattle.text.proofs.Comparing.{same_length}
 use Rattle.text.proofs.Lists.{no, or_right}
-use Rattle.output.specs.Store.{stored, farthest, Wrote}
+use Rattle.output.specs.Store.{stored, farthest, past, Wrote}
 use Rattle.output.proofs.Stores.{stored_append, length_stored, wrote_then}
 use Rattle.rules.specs.Headings.{decimal}
 use Rattle.rules.proofs.Pieces.{tail_whole}
 use Rattle.values.specs.Spread.{is_sign, signed, ends_all, copy, copies, spread}
 use Rattle.values.specs.Cutting.{sign_of, behind_sign}
-use Rattle.values.proofs.Writes.{part_whole, Writing, writing_start, writing_more, writing_end}
+use Rattle.values.proofs.Writes.{past_near, part_whole, wrote_long, Writing, writing_start, writing_more, writing_end}
 
 -- signs
 
@@ -28,9 +28,15 @@ pub sign_other : (b : ℕ) → (b ≡ 43 → ⊥) → eqb b 124 ≡ is_sign b
 unfolding is_sign
 sign_other b n = rw (ne_eqb b 43 n)
 
-pub signed_first : (t : Text) (r : Bool) (b : ℕ) → r ≡ is_sign b → b ≡ first t → r ≡ signed t
-unfolding signed
-signed_first t r b e q = e ∙ ap is_sign q
+pub signed_none : (t : Text) → length t < 1 → false ≡ signed t
+unfolding signed first is_sign
+signed_none [] h = refl
+signed_none (b ∷ t) h = absurd (omega arith)
+
+pub signed_some : (t : Text) → 1 ≤ length t → is_sign (get_or t 0 0) ≡ signed t
+unfolding signed first
+signed_some [] h = absurd (omega arith)
+signed_some (b ∷ t) h = refl
 
 -- `:all`
 
@@ -54,7 +60,7 @@ ends_long t h = go (length t - 3) refl
     go zero e = absurd (no (ends_short t (omega arith) ∙ h))
     go (suc n) e = omega arith
 
-plus_sign : is_sign 43 ≡ true
+pub plus_sign : is_sign 43 ≡ true
 unfolding is_sign
 plus_sign = refl
 
@@ -75,35 +81,39 @@ copy_other k t h e = rw (e, ne_eqb k 1 (λ z. omega arith))
 copy_cons : (k b : ℕ) (t : Text) → 2 ≤ k → is_sign b ≡ true → copy k (b ∷ t) ≡ b ∷ (t ++ (58 ∷ decimal k))
 copy_cons k b t h e = copy_signed k (b ∷ t) h (signed_cons b t e)
 
+-- a text with a number behind it, where there is room for it and where there is none
+module _ (d : Text) (t : Text) (k at : ℕ) (l : length d ≤ farthest) where
+  pub numbered_written : (d₁ : Text) (a r : ℕ) → k < 10 → a ≡ at → a + length t + 2 ≤ length d → d₁ ≡ stored d a (part t 0 (length t)) → r ≡ at + (length t + 2) →
+      Wrote d (set (set d₁ (a + length t) 58) (a + length t + 1) (48 + k)) at (t ++ (58 ∷ decimal k)) r
+  unfolding stored decimal
+  numbered_written d₁ a r f e g x y =
+      record {
+        text = sym (stored_append d at t (58 ∷ decimal k) ∙ rw (lt-ltb k 10 f, x, part_whole t, e));
+        next = y ∙ (past_near at (length t + 2) (omega arith) ∙ ap (past at) (sym (length-append t (58 ∷ decimal k) ∙ rw (lt-ltb k 10 f))));
+      }
+
+  pub numbered_then : (d₁ d₂ d₃ : Text) (a b r : ℕ) → Wrote d d₁ at t a → Wrote d₁ d₂ a (58 ∷ []) b → Wrote d₂ d₃ b (decimal k) r →
+      Wrote d d₃ at (t ++ (58 ∷ decimal k)) r
+  numbered_then d₁ d₂ d₃ a b r u v w =
+      let m : length d₁ ≤ farthest = omega (arith, wrote_long d d₁ at t a u) in
+      wrote_then d d₁ d₃ at t (58 ∷ decimal k) a r l u (wrote_then d₁ d₂ d₃ a (58 ∷ []) (decimal k) b r m v w)
+
+pub digit_inside : (d d₁ x : Text) (a n : ℕ) → d₁ ≡ stored d a x → a + n + 2 ≤ length d → a + n + 1 < length (set d₁ (a + n) 58)
+digit_inside d d₁ x a n e h = omega (arith, length-set d₁ (a + n) 58, ap length e, length_stored d a x)
+
 -- written as far as there is room
-pub copy_put : (d d₀ d₁ d₂ : Text) (b : ℕ) (t : Text) (k at z a r : ℕ) → 2 ≤ k → is_sign b ≡ true → length d ≤ farthest →
-    Wrote d d₀ at (b ∷ []) z → Wrote d₀ d₁ z t a → Wrote d₁ d₂ a (58 ∷ decimal k) r → Wrote d d₂ at (copy k (b ∷ t)) r
-copy_put d d₀ d₁ d₂ b t k at z a r h e l p u v =
-    rw (copy_cons k b t h e) (wrote_then d d₁ d₂ at (b ∷ t) (58 ∷ decimal k) a r l (wrote_then d d₀ d₁ at (b ∷ []) t z a l p u) v)
+pub copy_put : (d d₁ d₂ : Text) (b : ℕ) (t : Text) (k at z r : ℕ) → 2 ≤ k → is_sign b ≡ true → length d ≤ farthest →
+    Wrote d d₁ at (b ∷ []) z → Wrote d₁ d₂ z (t ++ (58 ∷ decimal k)) r → Wrote d d₂ at (copy k (b ∷ t)) r
+copy_put d d₁ d₂ b t k at z r h e l p u = rw (copy_cons k b t h e) (wrote_then d d₁ d₂ at (b ∷ []) (t ++ (58 ∷ decimal k)) z r l p u)
 
 -- written where there is room
-pub copy_written : (d d₁ : Text) (b : ℕ) (t : Text) (k at : ℕ) → 2 ≤ k → k < 10 → is_sign b ≡ true → d₁ ≡ stored (set d at b) (at + 1) (part t 0 (length t)) →
-    set (set d₁ (at + length t + 1) 58) (at + length t + 2) (48 + k) ≡ stored d at (copy k (b ∷ t))
+pub copy_written : (d d₁ : Text) (b : ℕ) (t : Text) (k at z : ℕ) → 2 ≤ k → k < 10 → is_sign b ≡ true → d₁ ≡ stored (set d at b) (at + 1) (part t 0 (length t)) →
+    z ≡ at + 1 + length t → set (set d₁ z 58) (z + 1) (48 + k) ≡ stored d at (copy k (b ∷ t))
 unfolding stored decimal
-copy_written d d₁ b t k at h f e x =
-    let z : at + 1 + length t ≡ at + length t + 1 = omega arith in
-    let y : at + length t + 1 + 1 ≡ at + length t + 2 = omega arith in
+copy_written d d₁ b t k at z h f e x q =
     sym (ap (stored d at) (copy_cons k b t h e)
     ∙ (stored_append (set d at b) (at + 1) t (58 ∷ decimal k)
-    ∙ rw (lt-ltb k 10 f, z, y, x, part_whole t)))
-
-pub copy_long : (d d₁ x : Text) (b at o i y j z : ℕ) → d₁ ≡ stored (set d at b) o x → length (set (set d₁ i y) j z) ≡ length d
-copy_long d d₁ x b at o i y j z e =
-    length-set (set d₁ i y) j z ∙ (length-set d₁ i y ∙ (ap length e ∙ (length_stored (set d at b) o x ∙ length-set d at b)))
-
-pub colon_digit_inside : (d d₁ : Text) (b : ℕ) (t : Text) (at : ℕ) → at + length t + 3 ≤ length d → d₁ ≡ stored (set d at b) (at + 1) (part t 0 (length t)) →
-    (at + length t + 1 < length d₁) × (at + length t + 2 < length (set d₁ (at + length t + 1) 58))
-colon_digit_inside d d₁ b t at h x =
-    let e : length d₁ ≡ length d = ap length x ∙ (length_stored (set d at b) (at + 1) (part t 0 (length t)) ∙ length-set d at b) in
-    (omega arith, omega (arith, length-set d₁ (at + length t + 1) 58))
-
-pub end_written : (d d' d'' : Text) (k at a r : ℕ) → length d ≤ farthest → Wrote d d' at (58 ∷ []) a → Wrote d' d'' a (decimal k) r → Wrote d d'' at (58 ∷ decimal k) r
-end_written d d' d'' k at a r l u v = wrote_then d d' d'' at (58 ∷ []) (decimal k) a r l u v
+    ∙ rw (lt-ltb k 10 f, ← q, x, part_whole t)))
 
 copies_cons : (j k : ℕ) (t : Text) → copies (suc j) k t ≡ copy k t ++ copies j (k + 1) t
 unfolding copies
@@ -152,26 +162,35 @@ by_sign j t = go (signed t) refl
     go true h = ap (copies j 2) (sign_some t h)
     go false h = copies_plus j 2 t (omega arith) h
 
--- the ways out of `sign_of` and `behind_sign`
-module _ (t : Text) (s : Bool) (e : s ≡ signed t) where
-  pub sign_first : (b : ℕ) → s ≡ true → b ≡ first t → b ≡ sign_of t
+first_get : (t : Text) → get_or t 0 0 ≡ first t
+unfolding first
+first_get [] = refl
+first_get (b ∷ t) = refl
+
+-- the ways out of `Copies::of`
+module _ (t : Text) where
+  pub sign_signs : true ≡ signed t → is_sign (get_or t 0 0) ≡ true
+  unfolding signed
+  sign_signs q = ap is_sign (first_get t) ∙ sym q
+
+  pub sign_inside : true ≡ signed t → 1 ≤ length t
+  sign_inside q = omega (arith, ap length (sign_some t (sym q)))
+
+  pub sign_first : true ≡ signed t → get_or t 0 0 ≡ sign_of t
   unfolding sign_of
-  sign_first b q h = h ∙ rw (← e, q)
+  sign_first q = rw (← q) (first_get t)
 
-  pub sign_none : s ≡ false → 43 ≡ sign_of t
+  pub behind_first : true ≡ signed t → take (length t - 1) (drop 1 t) ≡ behind_sign t
+  unfolding behind_sign
+  behind_first q = rw (← q) (tail_whole t 1 (sign_inside q))
+
+  pub sign_plain : false ≡ signed t → 43 ≡ sign_of t
   unfolding sign_of
-  sign_none q = rw (← e, q)
+  sign_plain q = rw (← q)
 
-  pub sign_inside : s ≡ true → 1 ≤ length t
-  sign_inside q = omega (arith, ap length (sign_some t (sym e ∙ q)))
-
-  pub behind_first : s ≡ true → take (length t - 1) (drop 1 t) ≡ behind_sign t
+  pub behind_plain : false ≡ signed t → t ≡ behind_sign t
   unfolding behind_sign
-  behind_first q = rw (← e, q) (tail_whole t 1 (sign_inside q))
-
-  pub behind_none : s ≡ false → take (length t - 0) (drop 0 t) ≡ behind_sign t
-  unfolding behind_sign
-  behind_none q = rw (← e, q) (tail_whole t 0 (omega arith))
+  behind_plain q = rw (← q)
 
 pub copies_by : (j : ℕ) (t : Text) (b : ℕ) (r : Text) → b ≡ sign_of t → r ≡ behind_sign t → copies j 2 (b ∷ r) ≡ copies j 2 t
 copies_by j t b r e q = rw (e, q) (sym (by_sign j t))
@@ -287,6 +306,12 @@ module _ (b : ℕ) (t : Text) (n : ℕ) (d d' : Text) (at k o : ℕ) (v : Storin
   storing_end h =
       let e : n + 1 - k ≡ 0 = omega arith in
       sym (v.left ∙ rw (e, copies_none))
+
+-- the last copy
+pub storing_last : (b : ℕ) (t : Text) (n : ℕ) (d d' : Text) (at k o : ℕ) → Storing b t n d d' at k o → (d'' : Text) → k ≤ n → n ≤ k → n < 10 → is_sign b ≡ true →
+    d'' ≡ stored d' o (copy k (b ∷ t)) → d'' ≡ stored d at (copies (n - 1) 2 (b ∷ t))
+storing_last b t n d d' at k o v d'' h m l s w =
+    storing_end b t n d d'' at (k + 1) (o + length t + 3) (storing_more b t n d d' at k o v d'' (o + length t + 3) h l s w refl) (omega arith)
 
 -- nothing stays nothing
 pub spread_nil : (n : ℕ) → spread n [] ≡ []

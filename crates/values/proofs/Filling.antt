@@ -1,17 +1,18 @@
 -- A word filled piece by piece, and how long it gets.
 use Prim.Native.Nat.{ℕ, zero, suc, ◌+◌, ◌-◌, ◌*◌, ◌/◌, ◌%◌, ◌≤◌, ◌<◌}
 use native.Mathlib.Omega.{arith}
-use mathlib.Core.Path.{◌≡◌, refl, sym, ap, ◌∙◌}
+use mathlib.Core.Path.{◌≡◌, refl, ap, ◌∙◌}
 use mathlib.Core.List.{List, [], ◌∷◌, ◌++◌}
 use mathlib.Core.Bool.{Bool, true, false, ◌&&◌, ◌||◌, cond}
 use lib.ListN.{length, drop, get_or, length-append, length-drop, drop_of_length-le}
 use lib.Seq.{drop-drop}
 use lib.Dec.{eqb, ltb, leb}
-use borrow.Author.Tests.{eqb-false, eq-eqb, ne_eqb, ltb-false}
+use borrow.Author.Tests.{eqb-false, ltb-false}
+use Rattle.std.specs.List.{list_any}
 use Rattle.text.specs.Limits.{longest_field}
 use Rattle.text.specs.Bytes.{Text, empty, any_of, concat_map}
 use Rattle.text.proofs.Comparing.{drop_at}
-use Rattle.text.proofs.Lists.{neither, any_nil}
+use Rattle.text.proofs.Lists.{neither}
 use Rattle.output.specs.Store.{farthest, past, Wrote}
 use Rattle.output.proofs.Stores.{take_stored}
 use Rattle.profile.specs.Profile.{Profile, texts_of, fields, profile_of, layout_count}
@@ -228,25 +229,8 @@ module _ (p : Profile) (short : ShortValues p) (k : ℕ) where
       filled_of d d' (filled p k w) o r (omega (arith, filled_short w)) b
       (going_over p k w d d' i o g h) e
 
--- the loop of `has_percent`: up to i there is none
-pub record NonePercent (w : Text) (i : ℕ) : Type 0 where
-  pub high : i ≤ length w
-  pub rest : any_of is_percent w ≡ any_of is_percent (drop i w)
-
-pub none_start : (w : Text) → NonePercent w 0
-none_start w = record { high = omega arith; rest = refl }
-
-module _ (w : Text) (i : ℕ) (v : NonePercent w i) where
-  pub none_end : length w ≤ i → false ≡ any_of is_percent w
-  none_end h = sym (v.rest ∙ rw (drop_of_length-le w h) (any_nil is_percent))
-
-  module _ (h : i < length w) where
-    none_step : any_of is_percent w ≡ is_percent (get_or w i 0) || any_of is_percent (drop (i + 1) w)
-    unfolding any_of
-    none_step = v.rest ∙ rw (drop_at w i h)
-
-    pub none_here : get_or w i 0 ≡ 37 → true ≡ any_of is_percent w
-    none_here e = sym (none_step ∙ rw (eq-eqb (get_or w i 0) 37 e))
-
-    pub none_more : (get_or w i 0 ≡ 37 → ⊥) → NonePercent w (i + 1)
-    none_more n = record { high = omega arith; rest = none_step ∙ rw (ne_eqb (get_or w i 0) 37 n) }
+-- `any_of` is std's
+pub any_listed : (q : ℕ → Bool) (t : Text) → list_any q t ≡ any_of q t
+unfolding any_of
+any_listed q [] = refl
+any_listed q (b ∷ t) = ap (λ (c : Bool). q b || c) (any_listed q t)

@@ -3,22 +3,23 @@ use Prim.Native.Nat.{ℕ, zero, suc, ◌+◌, ◌-◌, ◌≤◌, ◌<◌}
 use native.Mathlib.Omega.{arith}
 use mathlib.Core.Path.{◌≡◌, refl, sym, ap, ◌∙◌}
 use mathlib.Core.List.{List, [], ◌∷◌, ◌++◌, append_assoc, append-nil}
-use mathlib.Core.Bool.{Bool, true, false, cond}
+use mathlib.Core.Bool.{Bool, true, false, ◌||◌, cond}
 use lib.ListN.{length, take, drop, get_or, length-append, length-take, length-drop, take-append-drop, get_or-append}
 use lib.Seq.{drop-length, drop-append-le, drop-append_seam, take-append_seam, drop-drop, take-add, get_or-drop}
 use lib.Dec.{eqb, ltb, leb}
 use borrow.Author.Tests.{eqb-true, eqb-false, ltb-true, ltb-false, le-leb, lt-leb}
-use Rattle.text.specs.Bytes.{Text, bytes, same, part, concat_map}
+use Rattle.text.specs.Bytes.{Text, bytes, same, empty, first, part, concat_map}
 use Rattle.text.proofs.Comparing.{drop_at}
-use Rattle.text.proofs.Lists.{no, or_right, same_eq, nothing}
+use Rattle.text.proofs.Lists.{no, or_right, same_eq}
 use Rattle.text.proofs.Numbers.{below_or}
 use Rattle.text.proofs.Positions.{part_empty, part_cons}
 use Rattle.rules.specs.Headings.{decimal}
-use Rattle.rules.proofs.Pieces.{tail_whole}
 use Rattle.profile.specs.Profile.{push}
-use Rattle.values.specs.Spread.{is_sign, cuts, ends_all, stem, copies, spread}
-use Rattle.values.specs.Cutting.{upto, closes_all, FreeOfAll, FirstAll, ToColon, start_of, more_copies}
+use Rattle.values.specs.Spread.{is_sign, signed, cuts, ends_all, stem, copies, spread}
+use Rattle.std.specs.Prelude.{Option, Some, None}
+use Rattle.values.specs.Cutting.{upto, closes_all, FreeOfAll, FirstAll, FirstColon, ToColon, start_of, more_copies}
 use Rattle.values.proofs.Cuts.{beyond, InCut, later, cuts_first, first_cut, upto_sign, upto_other, upto_nil, beyond_other, upto_beyond, beyond_starts, CutEnd, in_cut_start, in_cut_more, in_cut_end, cut_at, cut_over}
+use Rattle.values.proofs.Writes.{part_whole}
 use Rattle.values.proofs.Copying.{all_long, ends_long, first_copy, spread_nil}
 
 signless : (k : ℕ) → k < 4 → is_sign (get_or (bytes ":all") k 0) ≡ false
@@ -173,43 +174,37 @@ module _ (r : Text) (h : closes_all r ≡ true) where
   closes_byte : (k : ℕ) → k < 4 → get_or r k 0 ≡ get_or (bytes ":all") k 0
   closes_byte k m = ap (λ (x : Text). get_or x k 0) closes_is ∙ get_or-append (bytes ":all") (beyond r) 0 k (omega (arith, all_long))
 
-closes_not : (r : Text) → (closes_all r ≡ true → ⊥) → false ≡ closes_all r
+-- what stands behind the `:all` of a piece that ends with it: nothing, or a sign
+pub closes_behind : (z : Text) → closes_all (bytes ":all" ++ z) ≡ empty z || signed z
+unfolding empty signed first
+closes_behind [] = all_closes [] upto_nil
+closes_behind (b ∷ z) = go (is_sign b) refl
+  where
+    go : (x : Bool) → is_sign b ≡ x → closes_all (bytes ":all" ++ (b ∷ z)) ≡ is_sign b
+    go true u = all_closes (b ∷ z) (upto_sign b z u) ∙ sym u
+    go false u = all_goes_on b z u ∙ sym u
+
+pub closes_not : (r : Text) → ((z : Text) → r ≡ bytes ":all" ++ z → ⊥) → false ≡ closes_all r
 closes_not r n = go (closes_all r) refl
   where
     go : (b : Bool) → closes_all r ≡ b → false ≡ closes_all r
-    go true e = absurd (n e)
+    go true e = absurd (n (beyond r) (closes_is r e))
     go false e = sym e
 
--- the ways out of `closes_all`
-module _ (t : Text) (i : ℕ) where
-  pub closes_other : (k : ℕ) → k < 4 → (get_or t (i + k) 0 ≡ get_or (bytes ":all") k 0 → ⊥) → false ≡ closes_all (drop i t)
-  closes_other k m h = closes_not (drop i t) (λ e. h (sym (get_or-drop i t k 0) ∙ closes_byte (drop i t) e k m))
-
-  pub closes_first : (get_or t i 0 ≡ 58 → ⊥) → false ≡ closes_all (drop i t)
-  unfolding bytes
-  closes_first h = let z : i + 0 ≡ i = omega arith in closes_other 0 (omega arith) (λ e. h (rw z at e))
-
-  pub closes_sign : i + 4 < length t → get_or t i 0 ≡ 58 → get_or t (i + 1) 0 ≡ 97 → get_or t (i + 2) 0 ≡ 108 → get_or t (i + 3) 0 ≡ 108 →
-      (r : Bool) → r ≡ is_sign (get_or t (i + 4) 0) → r ≡ closes_all (drop i t)
-  closes_sign l a b c d r e = e ∙ rw stands (go (is_sign (get_or t (i + 4) 0)) refl)
-    where
-      four : drop (i + 4) t ≡ get_or t (i + 4) 0 ∷ drop (i + 4 + 1) t
-      four = drop_at t (i + 4) l
-
-      stands : drop i t ≡ bytes ":all" ++ drop (i + 4) t
-      stands =
-          let z₂ : i + 1 + 1 ≡ i + 2 = omega arith in
-          let z₃ : i + 2 + 1 ≡ i + 3 = omega arith in
-          let z₄ : i + 3 + 1 ≡ i + 4 = omega arith in
-          rw (drop_at t i (omega arith), a, drop_at t (i + 1) (omega arith), b, z₂, drop_at t (i + 2) (omega arith), c, z₃, drop_at t (i + 3) (omega arith), d, z₄)
-          (all_bytes (drop (i + 4) t))
-
-      go : (x : Bool) → is_sign (get_or t (i + 4) 0) ≡ x → is_sign (get_or t (i + 4) 0) ≡ closes_all (bytes ":all" ++ drop (i + 4) t)
-      go true u = u ∙ sym (all_closes (drop (i + 4) t) (ap upto four ∙ upto_sign (get_or t (i + 4) 0) (drop (i + 4 + 1) t) u))
-      go false u = u ∙ sym (rw four (all_goes_on (get_or t (i + 4) 0) (drop (i + 4 + 1) t) u))
+closes_first : (t : Text) (i : ℕ) → (get_or t i 0 ≡ 58 → ⊥) → closes_all (drop i t) ≡ false
+unfolding bytes
+closes_first t i h = none (closes_all (drop i t)) refl
+  where
+    none : (b : Bool) → closes_all (drop i t) ≡ b → closes_all (drop i t) ≡ false
+    none true e = let z : i + 0 ≡ i = omega arith in absurd (h (rw z at (sym (get_or-drop i t 0 0) ∙ closes_byte (drop i t) e 0 (omega arith))))
+    none false e = e
 
 closes_short : (t : Text) (i : ℕ) → length t - i < 4 → closes_all (drop i t) ≡ false
-closes_short t i h = sym (closes_not (drop i t) (λ e. omega (arith, closes_long (drop i t) e, length-drop i t)))
+closes_short t i h = go (closes_all (drop i t)) refl
+  where
+    go : (b : Bool) → closes_all (drop i t) ≡ b → closes_all (drop i t) ≡ false
+    go true e = absurd (omega (arith, closes_long (drop i t) e, length-drop i t))
+    go false e = e
 
 all_signless : (t : Text) (c : ℕ) → closes_all (drop c t) ≡ true → (k : ℕ) → k < 4 → is_sign (get_or t (c + k) 0) ≡ false
 all_signless t c h k m = ap is_sign (sym (get_or-drop c t k 0) ∙ closes_byte (drop c t) h k m) ∙ signless k m
@@ -233,94 +228,67 @@ plain_more t from i j z l v n = record { low = omega (arith, v.low); high = omeg
     by k a b true q = let c : k ≡ i = eqb-true k i q in λ e. n (rw c at e)
     by k a b false q = v.plain k a (below_or k i (omega arith) (eqb-false k i q))
 
-pub colon_at : (t : Text) (from i : ℕ) → Colonless t from i → get_or t i 0 ≡ 58 → ToColon t from i
-colon_at t from i v e = record { low = v.low; high = v.high; plain = v.plain; colon = λ h. e }
+pub colon_at : (t : Text) (from i : ℕ) → Colonless t from i → i < length t → get_or t i 0 ≡ 58 → FirstColon t from i
+colon_at t from i v h e = record { low = v.low; high = h; plain = v.plain; here = e }
 
-pub colon_none : (t : Text) (from i : ℕ) → Colonless t from i → length t ≤ i + 3 → ToColon t from i
-colon_none t from i v l = record { low = v.low; high = v.high; plain = v.plain; colon = λ h. absurd (omega arith) }
+pub colon_none : (t : Text) (from i : ℕ) → Colonless t from i → length t ≤ i + 3 → ToColon t from None
+colon_none t from i v l = λ k a b. v.plain k a (omega arith)
 
-pub free_to : (t : Text) (from i : ℕ) → ToColon t from i → FreeOfAll t from i
-free_to t from i v = record { low = v.low; high = v.high; free = λ k a b. sym (closes_first t k (v.plain k a b)) }
-
-pub free_more : (t : Text) (from i j : ℕ) → FreeOfAll t from i → closes_all (drop i t) ≡ false → ToColon t (i + 1) j → FreeOfAll t from j
-free_more t from i j v e w =
+-- no `:all` that a piece ends with begins from `from` up to i, nor from i on up to j
+free_then : (t : Text) (from i j : ℕ) → FreeOfAll t from i → FreeOfAll t i j → FreeOfAll t from j
+free_then t from i j v w =
     record { low = omega (arith, v.low, w.low); high = w.high; free = λ k a b. by k a b (ltb k i) refl }
   where
-    behind : (k : ℕ) → i ≤ k → k < j → (u : Bool) → eqb k i ≡ u → closes_all (drop k t) ≡ false
-    behind k a b true q = let c : k ≡ i = eqb-true k i q in rw c e
-    behind k a b false q =
-        let d : (k ≡ i → ⊥) = eqb-false k i q in
-        let m : i < k = below_or i k a (λ z. d (sym z)) in
-        sym (closes_first t k (w.plain k (omega arith) b))
-
     by : (k : ℕ) → from ≤ k → k < j → (u : Bool) → ltb k i ≡ u → closes_all (drop k t) ≡ false
     by k a b true q = v.free k a (ltb-true k i q)
-    by k a b false q = behind k (ltb-false k i q) b (eqb k i) refl
+    by k a b false q = w.free k (ltb-false k i q) b
 
--- the loop of `find_all`: where there is room for `:all` and a sign, a colon stands at i
-pub record Finding (t : Text) (from i : ℕ) : Type 0 where
-  pub free : FreeOfAll t from i
-  pub colon : i + 3 < length t → get_or t i 0 ≡ 58
-
-pub finding_start : (t : Text) (from i : ℕ) → ToColon t from i → Finding t from i
-finding_start t from i v = record { free = free_to t from i v; colon = v.colon }
-
-pub finding_more : (t : Text) (from i j : ℕ) → Finding t from i → closes_all (drop i t) ≡ false → ToColon t (i + 1) j → Finding t from j
-finding_more t from i j v e w = record { free = free_more t from i j v.free e w; colon = w.colon }
-
-pub first_here : (t : Text) (from i : ℕ) → FreeOfAll t from i → closes_all (drop i t) ≡ true → FirstAll t from i
-first_here t from i v e = record { free = v; here = λ h. e }
-
--- the ways out of `last_all`, and what they mean for the whole text
-module _ (t : Text) (from : ℕ) (h : from ≤ length t) where
-  pub last_short : length t - from < 4 → FirstAll t from (length t)
-  last_short l =
-      record {
-        free = record { low = h; high = omega arith; free = λ k a b. closes_short t k (omega arith) };
-        here = λ z. absurd (omega arith);
-      }
-
-  pub last_all : (r : Bool) → length t - from ≡ 4 → r ≡ same (take (length t - from) (drop from t)) (bytes ":all") → r ≡ true → FirstAll t from from
-  last_all r l e q =
-      let w : drop from t ≡ bytes ":all" = sym (tail_whole t from h) ∙ same_eq _ (bytes ":all") (sym e ∙ q) in
-      record {
-        free = free_start t from h;
-        here = λ z. rw w (ap closes_all (sym (append-nil (bytes ":all"))) ∙ all_closes [] upto_nil);
-      }
-
-  pub last_other : (r : Bool) → length t - from ≡ 4 → r ≡ same (take (length t - from) (drop from t)) (bytes ":all") → r ≡ false → FirstAll t from (length t)
-  last_other r l e q =
-      record {
-        free = record { low = h; high = omega arith; free = λ k a b. by k a b (eqb k from) refl };
-        here = λ z. absurd (omega arith);
-      }
-    where
-      other : closes_all (drop from t) ≡ false
-      other =
-          sym (closes_not (drop from t)
-          (λ u.
-          let x = closes_is (drop from t) u in
-          let y : length (beyond (drop from t)) ≡ 0 = omega (arith, ap length x, length-append (bytes ":all") (beyond (drop from t)), all_long, length-drop from t) in
-          let z : drop from t ≡ bytes ":all" = x ∙ (ap (λ (v : Text). bytes ":all" ++ v) (nothing (beyond (drop from t)) y) ∙ append-nil (bytes ":all")) in
-          no (sym q ∙ (e ∙ (ap (λ (v : Text). same v (bytes ":all")) (tail_whole t from h ∙ z) ∙ all_same)))))
-
-      by : (k : ℕ) → from ≤ k → k < length t → (u : Bool) → eqb k from ≡ u → closes_all (drop k t) ≡ false
-      by k a b true c = let d : k ≡ from = eqb-true k from c in rw d other
-      by k a b false c =
-          let d : (k ≡ from → ⊥) = eqb-false k from c in
-          let m : from < k = below_or from k a (λ z. d (sym z)) in
-          closes_short t k (omega arith)
-
-pub first_last : (t : Text) (from i c : ℕ) → FreeOfAll t from i → FirstAll t i c → FirstAll t from c
-first_last t from i c v w =
-    record {
-      free = record { low = omega (arith, v.low, w.free.low); high = w.free.high; free = λ k a b. by k a b (ltb k i) refl };
-      here = w.here;
-    }
+-- no more colon
+free_over : (t : Text) (from i : ℕ) → FreeOfAll t from i → ToColon t i None → FreeOfAll t from (length t)
+free_over t from i v n = free_then t from i (length t) v (record { low = v.high; high = omega arith; free = λ k a b. by k a (ltb (k + 3) (length t)) refl })
   where
-    by : (k : ℕ) → from ≤ k → k < c → (u : Bool) → ltb k i ≡ u → closes_all (drop k t) ≡ false
-    by k a b true q = v.free k a (ltb-true k i q)
-    by k a b false q = w.free.free k (ltb-false k i q) b
+    by : (k : ℕ) → i ≤ k → (u : Bool) → ltb (k + 3) (length t) ≡ u → closes_all (drop k t) ≡ false
+    by k a true q = closes_first t k (n k a (ltb-true (k + 3) (length t) q))
+    by k a false q = let l = ltb-false (k + 3) (length t) q in closes_short t k (omega arith)
+
+-- the loop of `next_all`: none begins up to i, from which the next colon is looked for
+pub record Finding (t : Text) (from : ℕ) (colon : Option ℕ) : Type 0 where
+  pub here : ℕ
+  pub free : FreeOfAll t from here
+  pub next : ToColon t here colon
+
+-- how much is left
+pub bytes_behind : Text → Option ℕ → ℕ
+bytes_behind t None = 0
+bytes_behind t (Some c) = length t - c
+
+pub finding_start : (t : Text) (from : ℕ) (colon : Option ℕ) → from ≤ length t → ToColon t from colon → Finding t from colon
+finding_start t from colon h n = record { here = from; free = free_start t from h; next = n }
+
+pub finding_end : (t : Text) (from : ℕ) → Finding t from None → FreeOfAll t from (length t)
+finding_end t from v = free_over t from v.here v.free v.next
+
+module _ (t : Text) (from c : ℕ) (v : Finding t from (Some c)) where
+  pub colon_inside : c < length t
+  colon_inside = v.next.high
+
+  free_to : FreeOfAll t from c
+  free_to =
+      free_then t from v.here c v.free
+      (record { low = v.next.low; high = omega (arith, colon_inside); free = λ k a b. closes_first t k (v.next.plain k a b) })
+
+  pub first_here : closes_all (drop c t) ≡ true → FirstAll t from c
+  first_here e = record { free = free_to; here = e }
+
+  pub finding_more : closes_all (drop c t) ≡ false → (colon : Option ℕ) → ToColon t (c + 1) colon → Finding t from colon
+  finding_more e colon n =
+      let f : FreeOfAll t c (c + 1) = record { low = omega arith; high = omega (arith, colon_inside); free = λ k a b. let z : k ≡ c = omega arith in rw z e } in
+      record { here = c + 1; free = free_then t from c (c + 1) free_to f; next = n }
+
+  pub finding_less : (colon : Option ℕ) → ToColon t (c + 1) colon → bytes_behind t colon < bytes_behind t (Some c)
+  unfolding bytes_behind
+  finding_less None n = omega (arith, colon_inside)
+  finding_less (Some d) n = omega (arith, colon_inside, n.low, n.high)
 
 -- the piece that the place c stands in starts at p, not before `from`: there, or at a sign
 record PieceStart (t : Text) (from c p : ℕ) : Type 0 where
@@ -390,71 +358,77 @@ pub start_inside : (t : Text) (from c s : ℕ) → from ≤ c → c < length t �
 start_inside t from c s l m e = rw e (start_low t from c l m).1
 
 -- the pieces from a place on, by the next `:all` that ends one
+pub kept_last : (t : Text) (from : ℕ) → FreeOfAll t from (length t) → (n : ℕ) → concat_map (spread n) (cuts (drop from t)) ≡ part t from (length t)
+kept_last t from f n =
+    run_kept n t from (length t) f.low (omega arith) (ap upto (drop-length t) ∙ upto_nil) f.free
+    ∙ (ap (λ (x : Text). part t from (length t) ++ x) (cut_over (spread n) t (length t) (spread_nil n) (omega arith)) ∙ append-nil (part t from (length t)))
+
+-- a text too short for `:all`
+pub short_kept : (n : ℕ) (t : Text) → length t < 4 → t ≡ concat_map (spread n) (cuts t)
+short_kept n t h =
+    let f : FreeOfAll t 0 (length t) = record { low = omega arith; high = omega arith; free = λ k a b. closes_short t k (omega arith) } in
+    sym (kept_last t 0 f n ∙ part_whole t)
+
 module _ (t : Text) (from c : ℕ) (f : FirstAll t from c) where
-  pub kept_last : (n : ℕ) → length t ≤ c → concat_map (spread n) (cuts (drop from t)) ≡ part t from c
-  kept_last n h =
-      let z : c ≡ length t = omega (arith, f.free.high) in
-      rw z
-      (run_kept n t from (length t) (omega (arith, f.free.low, f.free.high)) (omega arith) (ap upto (drop-length t) ∙ upto_nil) (λ k a b. f.free.free k a (omega arith))
-      ∙ (ap (λ (x : Text). part t from (length t) ++ x) (cut_over (spread n) t (length t) (spread_nil n) (omega arith)) ∙ append-nil (part t from (length t))))
+  abbrev p : ℕ
+  p = start_of t from c
 
-  module _ (m : c < length t) where
-    abbrev p : ℕ
-    p = start_of t from c
+  pub long : c + 4 ≤ length t
+  long = omega (arith, closes_long (drop c t) f.here, length-drop c t)
 
-    b : PieceStart t from c p
-    b = starts_at t from c m c f.free.low (omega arith) (in_cut_start t (c + 1) (omega arith))
+  pub inside_text : c < length t
+  inside_text = omega (arith, long)
 
-    closed : closes_all (drop c t) ≡ true
-    closed = f.here m
+  abbrev m : c < length t
+  m = inside_text
 
-    pub long : c + 4 ≤ length t
-    long = omega (arith, closes_long (drop c t) closed, length-drop c t)
+  b : PieceStart t from c p
+  b = starts_at t from c m c f.free.low (omega arith) (in_cut_start t (c + 1) (omega (arith, long)))
 
-    -- no sign stands in `:all`
-    inside : InCut t (p + 1) (c + 4)
-    inside =
-        let q₂ : c + 1 + 1 ≡ c + 2 = omega arith in
-        let v₂ : InCut t (p + 1) (c + 2) = rw q₂ at (in_cut_more t (p + 1) (c + 1) b.inside (omega (arith, long)) (all_signless t c closed 1 (omega arith))) in
-        let q₃ : c + 2 + 1 ≡ c + 3 = omega arith in
-        let v₃ : InCut t (p + 1) (c + 3) = rw q₃ at (in_cut_more t (p + 1) (c + 2) v₂ (omega (arith, long)) (all_signless t c closed 2 (omega arith))) in
-        let q₄ : c + 3 + 1 ≡ c + 4 = omega arith in
-        rw q₄ at (in_cut_more t (p + 1) (c + 3) v₃ (omega (arith, long)) (all_signless t c closed 3 (omega arith)))
+  -- no sign stands in `:all`
+  inside : InCut t (p + 1) (c + 4)
+  inside =
+      let q₂ : c + 1 + 1 ≡ c + 2 = omega arith in
+      let v₂ : InCut t (p + 1) (c + 2) = rw q₂ at (in_cut_more t (p + 1) (c + 1) b.inside (omega (arith, long)) (all_signless t c f.here 1 (omega arith))) in
+      let q₃ : c + 2 + 1 ≡ c + 3 = omega arith in
+      let v₃ : InCut t (p + 1) (c + 3) = rw q₃ at (in_cut_more t (p + 1) (c + 2) v₂ (omega (arith, long)) (all_signless t c f.here 2 (omega arith))) in
+      let q₄ : c + 3 + 1 ≡ c + 4 = omega arith in
+      rw q₄ at (in_cut_more t (p + 1) (c + 3) v₃ (omega (arith, long)) (all_signless t c f.here 3 (omega arith)))
 
-    whole_piece : CutEnd t (p + 1) (c + 4)
-    whole_piece =
-        let e : drop (c + 4) t ≡ beyond (drop c t) = sym (drop-drop 4 c t) ∙ closes_rest (drop c t) closed in
-        in_cut_end t (p + 1) (c + 4) inside (ap upto e ∙ beyond_starts (drop c t))
+  whole_piece : CutEnd t (p + 1) (c + 4)
+  whole_piece =
+      let e : drop (c + 4) t ≡ beyond (drop c t) = sym (drop-drop 4 c t) ∙ closes_rest (drop c t) f.here in
+      in_cut_end t (p + 1) (c + 4) inside (ap upto e ∙ beyond_starts (drop c t))
 
-    to_piece : (n : ℕ) → concat_map (spread n) (cuts (drop from t)) ≡ part t from p ++ concat_map (spread n) (cuts (drop p t))
-    to_piece n = go (ltb from p) refl
-      where
-        go : (u : Bool) → ltb from p ≡ u → concat_map (spread n) (cuts (drop from t)) ≡ part t from p ++ concat_map (spread n) (cuts (drop p t))
-        go true q =
-            let s = b.sign (ltb-true from p q) in
-            run_kept n t from p b.low (omega (arith, b.high))
-            (ap upto (drop_at t p (omega (arith, b.high))) ∙ upto_sign (get_or t p 0) (drop (p + 1) t) s)
-            (λ k x y. f.free.free k x (omega (arith, b.high)))
-        go false q = let z : p ≡ from = omega (arith, ltb-false from p q, b.low) in rw (z, part_empty t from)
+  to_piece : (n : ℕ) → concat_map (spread n) (cuts (drop from t)) ≡ part t from p ++ concat_map (spread n) (cuts (drop p t))
+  to_piece n = go (ltb from p) refl
+    where
+      go : (u : Bool) → ltb from p ≡ u → concat_map (spread n) (cuts (drop from t)) ≡ part t from p ++ concat_map (spread n) (cuts (drop p t))
+      go true q =
+          let s = b.sign (ltb-true from p q) in
+          run_kept n t from p b.low (omega (arith, b.high, long))
+          (ap upto (drop_at t p (omega (arith, b.high, long))) ∙ upto_sign (get_or t p 0) (drop (p + 1) t) s)
+          (λ k x y. f.free.free k x (omega (arith, b.high)))
+      go false q = let z : p ≡ from = omega (arith, ltb-false from p q, b.low) in rw (z, part_empty t from)
 
-    stem_all : part t p (c + 4) ≡ part t p c ++ bytes ":all"
-    unfolding part
-    stem_all =
-        let z : c + 4 - c ≡ 4 = omega arith in
-        let e : part t c (c + 4) ≡ bytes ":all" = rw z (ap (take 4) (closes_is (drop c t) closed) ∙ all_taken (beyond (drop c t))) in
-        sym (part_join t p c (c + 4) b.high (omega arith)) ∙ ap (λ (x : Text). part t p c ++ x) e
+  stem_all : part t p (c + 4) ≡ part t p c ++ bytes ":all"
+  unfolding part
+  stem_all =
+      let z : c + 4 - c ≡ 4 = omega arith in
+      let e : part t c (c + 4) ≡ bytes ":all" = rw z (ap (take 4) (closes_is (drop c t) f.here) ∙ all_taken (beyond (drop c t))) in
+      sym (part_join t p c (c + 4) b.high (omega arith)) ∙ ap (λ (x : Text). part t p c ++ x) e
 
-    pub kept_copies : (n : ℕ) → 1 ≤ n →
-        concat_map (spread n) (cuts (drop from t)) ≡ part t from c ++ ((58 ∷ decimal 1) ++ (more_copies n t from c ++ concat_map (spread n) (cuts (drop (c + 4) t))))
-    unfolding more_copies
-    kept_copies n h =
-        let r = concat_map (spread n) (cuts (drop (c + 4) t)) in
-        let e : copies n 1 (part t p c) ≡ part t p c ++ ((58 ∷ decimal 1) ++ copies (n - 1) 2 (part t p c)) = first_copy n (part t p c) h in
-        to_piece n
-        ∙ (ap (λ (x : Text). part t from p ++ x)
-        (cut_at (spread n) t p (c + 4) (spread_nil n) (omega (arith, b.high)) whole_piece
-        ∙ ap (λ (x : Text). x ++ r) (ap (spread n) stem_all ∙ (spread_closed n (part t p c) ∙ e)))
-        ∙ (ap (λ (x : Text). part t from p ++ x) (append_assoc (part t p c) ((58 ∷ decimal 1) ++ copies (n - 1) 2 (part t p c)) r)
-        ∙ (sym (append_assoc (part t from p) (part t p c) (((58 ∷ decimal 1) ++ copies (n - 1) 2 (part t p c)) ++ r))
-        ∙ (ap (λ (x : Text). x ++ (((58 ∷ decimal 1) ++ copies (n - 1) 2 (part t p c)) ++ r)) (part_join t from p c b.low b.high)
-        ∙ ap (λ (x : Text). part t from c ++ x) (append_assoc (58 ∷ decimal 1) (copies (n - 1) 2 (part t p c)) r)))))
+  pub kept_copies : (n : ℕ) → 1 ≤ n →
+      concat_map (spread n) (cuts (drop from t)) ≡ part t from c ++ ((58 ∷ decimal 1) ++ (more_copies n t from c ++ concat_map (spread n) (cuts (drop (c + 4) t))))
+  unfolding more_copies
+  kept_copies n h =
+      let r = concat_map (spread n) (cuts (drop (c + 4) t)) in
+      let e : copies n 1 (part t p c) ≡ part t p c ++ ((58 ∷ decimal 1) ++ copies (n - 1) 2 (part t p c)) = first_copy n (part t p c) h in
+      to_piece n
+      ∙ (ap (λ (x : Text). part t from p ++ x)
+      (cut_at (spread n) t p (c + 4) (spread_nil n) (omega (arith, b.high, long)) whole_piece
+      ∙ ap (λ (x : Text). x ++ r) (ap (spread n) stem_all ∙ (spread_closed n (part t p c) ∙ e)))
+      ∙ (ap (λ (x : Text). part t from p ++ x) (append_assoc (part t p c) ((58 ∷ decimal 1) ++ copies (n - 1) 2 (part t p c)) r)
+      ∙ (sym (append_assoc (part t from p) (part t p c) (((58 ∷ decimal 1) ++ copies (n - 1) 2 (part t p c)) ++ r))
+      ∙ (ap (λ (x : Text). x ++ (((58 ∷ decimal 1) ++ copies (n - 1) 2 (part t p c)) ++ r)) (part_join t from p c b.low b.high)
+      ∙ ap (λ (x : Text). part t from c ++ x) (append_assoc (58 ∷ decimal 1) (copies (n - 1) 2 (part t p c)) r)))))

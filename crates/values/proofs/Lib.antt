@@ -1,4 +1,4 @@
-pub mod Values
+pub mod Invalid
 pub mod Writes
 pub mod Cuts
 pub mod Copying
@@ -7,5 +7,6 @@ pub mod Filling
 pub mod Begins
 pub mod Profiles
 pub mod Places
+pub mod Placed
 pub mod Keeping
 pub mod Spreading

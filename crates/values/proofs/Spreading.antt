@@ -3,22 +3,17 @@ use Prim.Native.Nat.{ℕ, ◌+◌, ◌*◌, ◌-◌, ◌≤◌, ◌<◌}
 use native.Mathlib.Omega.{arith}
 use mathlib.Core.Path.{◌≡◌, refl, sym, ap, ◌∙◌}
 use mathlib.Core.List.{[], ◌∷◌, ◌++◌, append-nil, append_assoc}
-use lib.ListN.{length, take, drop, set, length-append, length-set}
+use lib.ListN.{length, take, drop, length-append}
 use Rattle.text.specs.Bytes.{Text, part, concat_map}
 use Rattle.output.specs.Store.{stored, farthest, past, Wrote}
-use Rattle.output.proofs.Stores.{stored_append, length_stored, stored_behind, wrote_none, wrote_then}
+use Rattle.output.proofs.Stores.{stored_behind, wrote_none}
 use Rattle.rules.specs.Headings.{decimal}
 use Rattle.profile.proofs.OptionFields.{length_part}
 use Rattle.values.specs.Spread.{cuts, copies, spread}
-use Rattle.values.specs.Cutting.{FirstAll, start_of, sign_of, behind_sign, more_copies}
-use Rattle.values.proofs.Writes.{Writing, writing_start, writing_more, writing_end}
+use Rattle.values.specs.Cutting.{FreeOfAll, FirstAll, start_of, sign_of, behind_sign, more_copies}
+use Rattle.values.proofs.Writes.{past_near, Writing, writing_start, writing_more, writing_end}
 use Rattle.values.proofs.Copying.{copies_zero, copies_by, behind_short, few_copies, copies_counted}
-use Rattle.values.proofs.Keeping.{start_low, kept_last, long, kept_copies}
-
--- a position within the buffer
-past_near : (at n : ℕ) → at + n ≤ farthest → at + n ≡ past at n
-unfolding past
-past_near at n h = omega arith
+use Rattle.values.proofs.Keeping.{start_low, inside_text, kept_last, long, kept_copies}
 
 -- with one layout there are no more copies than the first
 more_none : (n : ℕ) (t : Text) (from c : ℕ) → n < 2 → more_copies n t from c ≡ []
@@ -65,46 +60,29 @@ pub record Spreading (t : Text) (n : ℕ) (d d' : Text) (at i o : ℕ) : Type 0 
 pub spreading_start : (t : Text) (n : ℕ) (d : Text) (at : ℕ) → length d ≤ farthest → at ≤ farthest → Spreading t n d d at 0 at
 spreading_start t n d at l h = record { high = omega arith; left = writing_start d at (concat_map (spread n) (cuts t)) l h }
 
-module _ (t : Text) (n : ℕ) (d d' : Text) (at i o : ℕ) (v : Spreading t n d d' at i o) (c : ℕ) (f : FirstAll t i c) (d₁ : Text) (o₁ : ℕ) where
-  pub spreading_end : length t ≤ c → Wrote d' d₁ o (part t i c) o₁ → Wrote d d₁ at (concat_map (spread n) (cuts t)) o₁
-  spreading_end h w =
-      let e : concat_map (spread n) (cuts (drop i t)) ≡ part t i c ++ [] = kept_last t i c f n h ∙ sym (append-nil (part t i c)) in
-      writing_end d d₁ at (concat_map (spread n) (cuts t)) o₁ (writing_more d d' at (concat_map (spread n) (cuts t)) o (part t i c) [] d₁ o₁ (rw e at v.left) w)
+module _ (t : Text) (n : ℕ) (d d' : Text) (at i o : ℕ) (v : Spreading t n d d' at i o) where
+  pub spreading_end : FreeOfAll t i (length t) → (d₁ : Text) (o₁ : ℕ) → Wrote d' d₁ o (part t i (length t)) o₁ → Wrote d d₁ at (concat_map (spread n) (cuts t)) o₁
+  spreading_end f d₁ o₁ w =
+      let x = part t i (length t) in
+      let e : concat_map (spread n) (cuts (drop i t)) ≡ x ++ [] = kept_last t i f n ∙ sym (append-nil x) in
+      writing_end d d₁ at (concat_map (spread n) (cuts t)) o₁ (writing_more d d' at (concat_map (spread n) (cuts t)) o x [] d₁ o₁ (rw e at v.left) w)
 
-  module _ (m : c < length t) (some : 1 ≤ n) (w : Wrote d' d₁ o (part t i c ++ (58 ∷ decimal 1)) o₁) where
+  module _ (c : ℕ) (f : FirstAll t i c) (some : 1 ≤ n) (d₁ : Text) (o₁ : ℕ) (w : Wrote d' d₁ o (take (c - i) (drop i t) ++ (58 ∷ decimal 1)) o₁) where
     -- what is left behind the first copy: the other copies, and the pieces after them
     pub spreading_copies : Writing d d₁ at (concat_map (spread n) (cuts t)) o₁ (more_copies n t i c ++ concat_map (spread n) (cuts (drop (c + 4) t)))
+    unfolding part
     spreading_copies =
         let r = more_copies n t i c ++ concat_map (spread n) (cuts (drop (c + 4) t)) in
         let e : concat_map (spread n) (cuts (drop i t)) ≡ (part t i c ++ (58 ∷ decimal 1)) ++ r =
-        kept_copies t i c f m n some ∙ sym (append_assoc (part t i c) (58 ∷ decimal 1) r) in
+        kept_copies t i c f n some ∙ sym (append_assoc (part t i c) (58 ∷ decimal 1) r) in
         writing_more d d' at (concat_map (spread n) (cuts t)) o (part t i c ++ (58 ∷ decimal 1)) r d₁ o₁ (rw e at v.left) w
 
     pub spreading_more : (d₂ : Text) (o₂ : ℕ) → Wrote d₁ d₂ o₁ (more_copies n t i c) o₂ → Spreading t n d d₂ at (c + 4) o₂
     spreading_more d₂ o₂ y =
         record {
-          high = long t i c f m;
+          high = long t i c f;
           left = writing_more d d₁ at (concat_map (spread n) (cuts t)) o₁ (more_copies n t i c) _ d₂ o₂ spreading_copies y;
         }
-
-pub first_inside : (d d₁ x : Text) (a n : ℕ) → d₁ ≡ stored d a x → a + n + 2 ≤ length d → a + n + 1 < length (set d₁ (a + n) 58)
-first_inside d d₁ x a n e h = omega (arith, length-set d₁ (a + n) 58, ap length e, length_stored d a x)
-
--- the first copy, where there is room for it and where there is none
-module _ (d : Text) (t : Text) (i c at : ℕ) (l : i ≤ c) (h : c ≤ length t) where
-  pub first_wrote : (d₁ : Text) (a r : ℕ) → a ≡ at → a + (c - i) + 2 ≤ length d → length d ≤ farthest → d₁ ≡ stored d a (part t i c) → r ≡ at + (c - i + 2) →
-      Wrote d (set (set d₁ (a + (c - i)) 58) (a + (c - i) + 1) 49) at (part t i c ++ (58 ∷ decimal 1)) r
-  unfolding stored decimal
-  first_wrote d₁ a r e g k x y =
-      let z : length (part t i c) ≡ c - i = length_part t i c l h in
-      record {
-        text = sym (stored_append d at (part t i c) (58 ∷ decimal 1) ∙ rw (z, x, e));
-        next = y ∙ (past_near at (c - i + 2) (omega arith) ∙ ap (past at) (sym (length-append (part t i c) (58 ∷ decimal 1) ∙ rw z)));
-      }
-
-  pub first_then : (d₁ d₂ : Text) (a r : ℕ) → length d ≤ farthest → Wrote d d₁ at (part t i c) a → Wrote d₁ d₂ a (58 ∷ decimal 1) r →
-      Wrote d d₂ at (part t i c ++ (58 ∷ decimal 1)) r
-  first_then d₁ d₂ a r m u v = wrote_then d d₁ d₂ at (part t i c) (58 ∷ decimal 1) a r m u v
 
 -- behind the buffer's end
 pub spread_behind : (d : Text) (t : Text) (n at i m r : ℕ) → i ≡ at → length d ≤ i → m ≡ length (concat_map (spread n) (cuts t)) → r ≡ past at m →
@@ -121,19 +99,16 @@ pub record Counting (t : Text) (n i m : ℕ) : Type 0 where
 pub counting_start : (t : Text) (n : ℕ) → Counting t n 0 0
 counting_start t n = record { high = omega arith; most = omega arith; left = omega arith }
 
-module _ (t : Text) (n i m : ℕ) (v : Counting t n i m) (c : ℕ) (f : FirstAll t i c) where
-  kept_long : length (part t i c) ≡ c - i
-  kept_long = length_part t i c f.free.low f.free.high
+module _ (t : Text) (n i m : ℕ) (v : Counting t n i m) where
+  pub counting_end : FreeOfAll t i (length t) → m + (length t - i) ≡ length (concat_map (spread n) (cuts t))
+  counting_end f = sym (v.left ∙ ap (λ (x : ℕ). m + x) (ap length (kept_last t i f n) ∙ length_part t i (length t) v.high (omega arith)))
 
-  pub counting_end : length t ≤ c → m + (c - i) ≡ length (concat_map (spread n) (cuts t))
-  counting_end h = sym (v.left ∙ ap (λ (x : ℕ). m + x) (ap length (kept_last t i c f n h) ∙ kept_long))
-
-  module _ (l : c < length t) (some : 1 ≤ n) (few : n < 10) (k : ℕ) (e : k ≡ length (more_copies n t i c)) where
+  module _ (c : ℕ) (f : FirstAll t i c) (some : 1 ≤ n) (few : n < 10) (k : ℕ) (e : k ≡ length (more_copies n t i c)) where
     pub counting_few : k ≤ 9 * (c - i + 3)
     unfolding more_copies
     counting_few =
         let s = start_of t i c in
-        let a = start_low t i c f.free.low l in
+        let a = start_low t i c f.free.low (inside_text t i c f) in
         let r = behind_sign (part t s c) in
         omega (
           arith,
@@ -147,13 +122,14 @@ module _ (t : Text) (n i m : ℕ) (v : Counting t n i m) (c : ℕ) (f : FirstAll
     unfolding decimal
     counting_more =
         let r = concat_map (spread n) (cuts (drop (c + 4) t)) in
-        let x = kept_copies t i c f l n some in
+        let x = kept_copies t i c f n some in
+        let p : length (part t i c) ≡ c - i = length_part t i c f.free.low f.free.high in
         let y : length (concat_map (spread n) (cuts (drop i t))) ≡ c - i + (2 + (k + length r)) =
         ap length x
         ∙ (length-append (part t i c) ((58 ∷ decimal 1) ++ (more_copies n t i c ++ r))
-        ∙ rw (kept_long, length-append (58 ∷ decimal 1) (more_copies n t i c ++ r), length-append (more_copies n t i c) r, ← e) refl) in
+        ∙ rw (p, length-append (58 ∷ decimal 1) (more_copies n t i c ++ r), length-append (more_copies n t i c) r, ← e) refl) in
         record {
-          high = long t i c f l;
+          high = long t i c f;
           most = omega (arith, v.most, counting_few, f.free.low);
           left = v.left ∙ omega (arith, y);
         }

@@ -11,6 +11,11 @@ use Rattle.output.proofs.Stores.{length_stored, stored_behind, wrote_none, wrote
 use Rattle.rules.specs.Headings.{decimal}
 use Rattle.rules.proofs.Pieces.{tail_whole}
 
+-- a position within the buffer
+pub past_near : (at n : ℕ) → at + n ≤ farthest → at + n ≡ past at n
+unfolding past
+past_near at n h = omega arith
+
 -- one byte, with room for it and without
 pub wrote_byte : (d : Text) (at i b r : ℕ) → i ≡ at → r ≡ past at 1 → Wrote d (set d i b) at (b ∷ []) r
 unfolding stored

@@ -1,5 +1,5 @@
 -- A text cut before its signs, met piece by piece.
-use Rattle.std.specs.Prelude.{ℕ, zero, suc, ◌+◌, ◌-◌, ◌≤◌, ◌<◌, ◌≡◌, [], ◌∷◌, Bool, true, false, ◌||◌, cond, length, drop, get_or, leb}
+use Rattle.std.specs.Prelude.{ℕ, zero, suc, ◌+◌, ◌-◌, ◌≤◌, ◌<◌, ◌≡◌, [], ◌∷◌, Bool, true, false, ◌||◌, cond, length, drop, get_or, leb, Option, Some, None}
 use Rattle.text.specs.Bytes.{Text, bytes, same, first, part}
 use Rattle.values.specs.Spread.{is_sign, signed, copies}
 
@@ -18,17 +18,26 @@ pub record FreeOfAll (t : Text) (from i : ℕ) : Type 0 where
   pub high : i ≤ length t
   pub free : (k : ℕ) → from ≤ k → k < i → closes_all (drop k t) ≡ false
 
--- the first place from `from` on where an `:all` begins that a piece ends with, or the text's end
-pub record FirstAll (t : Text) (from i : ℕ) : Type 0 where
-  pub free : FreeOfAll t from i
-  pub here : i < length t → closes_all (drop i t) ≡ true
+-- the first place from `from` on where an `:all` begins that a piece ends with
+pub record FirstAll (t : Text) (from c : ℕ) : Type 0 where
+  pub free : FreeOfAll t from c
+  pub here : closes_all (drop c t) ≡ true
 
--- the first colon from `from` on, or a place among the last three bytes or at the end up to which there is none
-pub record ToColon (t : Text) (from i : ℕ) : Type 0 where
+abbrev pub NextAll : Text → ℕ → Option ℕ → Type 0
+NextAll t from (Some c) = FirstAll t from c
+NextAll t from None = FreeOfAll t from (length t)
+
+-- the first colon from `from` on
+pub record FirstColon (t : Text) (from i : ℕ) : Type 0 where
   pub low : from ≤ i
-  pub high : i ≤ length t
+  pub high : i < length t
   pub plain : (k : ℕ) → from ≤ k → k < i → get_or t k 0 ≡ 58 → ⊥
-  pub colon : i + 3 < length t → get_or t i 0 ≡ 58
+  pub here : get_or t i 0 ≡ 58
+
+-- none up to the last three bytes, in which there is no `:all`
+abbrev pub ToColon : Text → ℕ → Option ℕ → Type 0
+ToColon t from (Some i) = FirstColon t from i
+ToColon t from None = (k : ℕ) → from ≤ k → k + 3 < length t → get_or t k 0 ≡ 58 → ⊥
 
 -- where the piece starts that the place c stands in: at a sign, or at `from`
 unfoldable pub start_of : Text → ℕ → ℕ → ℕ

@@ -1,10 +1,8 @@
--- What a word's expansion asks of the profile's values, which stand in one text.
-use Rattle.std.specs.Prelude.{ℕ, ◌≤◌, List}
-use Rattle.text.specs.Bytes.{Text}
-use Rattle.profile.specs.Places.{Placed}
+-- What a word's expansion takes: the values of a profile, which stand in one text.
+use Rattle.profile.specs.Profile.{Profile}
+use Rattle.profile.specs.Spans.{profile_at}
+use Rattle.values.specs.declared.Values.{Values}
 
--- the values' places in the text s are in the table b; n is the layout count, k the matched layout
-pub record Expands (s : Text) (b : List ℕ) (n k : ℕ) : Type 0 where
-  pub placed : Placed s b
-  pub few : n ≤ 32
-  pub low : k ≤ 32
+-- the profile that the values are those of
+abbrev pub as_profile : Values → Profile
+as_profile v = profile_at v.text.now v.bounds.now v.n

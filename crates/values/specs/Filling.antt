@@ -3,8 +3,6 @@ use Rattle.std.specs.Prelude.{ℕ, ◌≤◌, ◌≡◌, [], ◌∷◌, ◌++◌
 use Rattle.text.specs.Bytes.{Text, empty, any_of}
 use Rattle.profile.specs.Profile.{fields}
 use Rattle.profile.specs.Refusals.{long_field}
-use Rattle.rules.specs.declared.Piece.{Piece}
-use Rattle.rules.specs.declared.Piece.TheVariants.{Byte, Number, Bare, Parens, Prefixed, Unclosed}
 
 -- "one whose value is empty, yields nothing, prefix and parentheses included"
 unfoldable pub enclosed : Text → Text
@@ -12,15 +10,6 @@ enclosed t = cond (empty t) [] ((40 ∷ t) ++ (41 ∷ []))
 
 unfoldable pub prefixed : ℕ → Text → Text
 prefixed b t = cond (empty t) [] (b ∷ t)
-
--- a value with what an item puts around it
-unfoldable pub dressed : Piece → Text → Text
-dressed (Byte b) t = []
-dressed Number t = []
-dressed (Bare v) t = t
-dressed (Parens v) t = enclosed t
-dressed (Prefixed b v) t = prefixed b t
-dressed Unclosed t = []
 
 abbrev pub is_percent : ℕ → Bool
 is_percent b = eqb b 37

@@ -9,6 +9,7 @@ pub fn put_byte(b: u8, out: &mut [u8], at: u32) -> u32
     let i = output::wide(at);
     if i < out.len() {
         out[i] = b;
+        // a return of its own: where the compiler knows how long `out` is, no position is looked at
         return output::past(at, 1);
     }
     output::past(at, 1)
@@ -26,8 +27,8 @@ pub fn put_number(k: usize, out: &mut [u8], at: u32) -> u32
     ensures { Wrote out.old out.new at (decimal k) result }
 {
     if k < 10 {
-        return put_byte((48 + k) as u8, out, at);
+        return put_byte(b'0' + k as u8, out, at);
     }
-    let next = put_byte((48 + k / 10) as u8, out, at);
-    put_byte((48 + k % 10) as u8, out, next)
+    let next = put_byte(b'0' + (k / 10) as u8, out, at);
+    put_byte(b'0' + (k % 10) as u8, out, next)
 }

@@ -1,127 +1,132 @@
--- The first line of a text, found byte by byte.
-use Prim.Native.Nat.{ℕ, zero, suc, ◌+◌, ◌-◌, ◌≤◌, ◌<◌}
-use native.Mathlib.Numerals.{add-one}
+-- The first line of a text and what stands behind it, by the place of the first LF.
+use Prim.Native.Nat.{ℕ, suc, ◌+◌, ◌-◌, ◌≤◌, ◌<◌}
 use native.Mathlib.Omega.{arith}
 use mathlib.Core.Path.{◌≡◌, refl, sym, ap, ◌∙◌}
 use mathlib.Core.List.{[], ◌∷◌}
-use mathlib.Core.Bool.{Bool, true, false, cond}
-use lib.ListN.{length, take, drop, get_or, length-take, length-drop}
-use lib.Seq.{drop-cons, take_all, take-nil}
-use mathlib.Core.Logic.{⊎_elim}
-use lib.Dec.{ltb}
-use borrow.Author.Tests.{ne_eqb, ltb-true, ltb-false}
+use mathlib.Core.Bool.{Bool, true, false, cond, ◌&&◌}
+use lib.ListN.{length, take, drop, length-drop, drop_of_length-le}
+use lib.Seq.{take_all}
+use lib.Dec.{eqb, ltb}
+use lib.Pointwise.{pointwise}
+use borrow.Author.Tests.{ltb-true, ltb-false}
+use Rattle.std.proofs.Common.{Bor, Option, Some, None, MatchOption, unwrap_or}
+use Rattle.std.specs.List.{position_or_len}
+use Rattle.std.proofs.lemmas.Option.{cond_some, none-some}
 use Rattle.text.specs.Bytes.{Text, first}
 use Rattle.text.specs.Marks.{ends_line}
-use Rattle.text.specs.Reading.{feed_end}
-use Rattle.text.proofs.Lists.{no}
-use Rattle.text.proofs.ByteKinds.{ends_no}
-use Rattle.text.proofs.Feeds.{FeedAt, feed_none}
 use Rattle.xkbresolve.specs.Program.{first_line, later_lines}
 
-drop_past : (i : ℕ) (s : Text) → length s ≤ i → drop i s ≡ []
-drop_past zero [] h = refl
-drop_past zero (b ∷ s) h = absurd (omega arith)
-drop_past (suc i) [] h = refl
-drop_past (suc i) (b ∷ s) h = drop_past i s (omega arith)
+abbrev pub is_feed : ℕ → Bool
+is_feed b = eqb b 10
 
--- the line's length is i and the length of the line that is left at i
-pub line_start : (s : Text) → length (first_line s) ≡ 0 + length (first_line (drop 0 s))
-line_start s = omega arith
+abbrev place : Text → ℕ
+place s = position_or_len is_feed s
 
-module _ (s : Text) (i : ℕ) (sofar : length (first_line s) ≡ i + length (first_line (drop i s))) where
-  pub line_here : i < length s → ends_line (get_or s i 0) (first (drop (i + 1) s)) ≡ true → i ≡ length (first_line s)
-  unfolding first_line
-  line_here h e =
-      let q : ends_line (get_or s i 0) (first (drop (suc i) s)) ≡ true = rw (add-one i) at e in
-      let z : length (first_line (drop i s)) ≡ 0 = rw (drop-cons s i 0 h, q) in
-      omega arith
+-- a text without a CR at its end
+pub strip : Text → Text
+strip [] = []
+strip (b ∷ []) = cond (eqb b 13) [] (b ∷ [])
+strip (b ∷ c ∷ t) = b ∷ strip (c ∷ t)
 
-  pub line_on : i < length s → ends_line (get_or s i 0) (first (drop (i + 1) s)) ≡ false → length (first_line s) ≡ i + 1 + length (first_line (drop (i + 1) s))
-  unfolding first_line
-  line_on h n =
-      let q : ends_line (get_or s i 0) (first (drop (suc i) s)) ≡ false = rw (add-one i) at n in
-      let z : length (first_line (drop i s)) ≡ 1 + length (first_line (drop (i + 1) s)) = rw (drop-cons s i 0 h, q, add-one i) (omega arith) in
-      omega arith
+module _ (b : ℕ) (s : Text) where
+  place_here : eqb b 10 ≡ true → place (b ∷ s) ≡ 0
+  place_here e = rw e
 
-  pub line_end : length s ≤ i → i ≡ length (first_line s)
-  unfolding first_line
-  line_end h =
-      let z : length (first_line (drop i s)) ≡ 0 = rw (drop_past i s h) in
-      omega arith
+  place_on : eqb b 10 ≡ false → place (b ∷ s) ≡ suc (place s)
+  place_on e = rw e (omega arith)
 
--- the line and what is behind it, as parts
-
-line_take : (s : Text) → first_line s ≡ take (length (first_line s)) s
-unfolding first_line
-line_take [] = refl
-line_take (b ∷ s) = go (ends_line b (first s)) (line_take s)
-  where
-    go : (t : Bool) → first_line s ≡ take (length (first_line s)) s → cond t [] (b ∷ first_line s) ≡ take (length (cond t [] (b ∷ first_line s))) (b ∷ s)
-    go true h = refl
-    go false h = ap (λ r. b ∷ r) h
-
--- what is behind the first LF, from the line end on
-later_drop : (s : Text) → later_lines s ≡ later_lines (drop (length (first_line s)) s)
-unfolding first_line later_lines
-later_drop [] = refl
-later_drop (b ∷ s) = go (ends_line b (first s)) refl (later_drop s)
-  where
-    go : (t : Bool) → ends_line b (first s) ≡ t → later_lines s ≡ later_lines (drop (length (first_line s)) s) →
-        later_lines (b ∷ s) ≡ later_lines (drop (length (cond t [] (b ∷ first_line s))) (b ∷ s))
-    go true p h = refl
-    go false p h = rw (ne_eqb b 10 (ends_no b (first s) p)) h
-
--- a line that ends before the text does so at a line end
-line_stops : (s : Text) (e : ℕ) → e ≡ length (first_line s) → e < length s → ends_line (get_or s e 0) (first (drop (suc e) s)) ≡ true
-unfolding first_line
-line_stops [] e q h = absurd (omega arith)
-line_stops (b ∷ s) e q h = go (ends_line b (first s)) refl e q h (line_stops s)
-  where
-    go : (t : Bool) → ends_line b (first s) ≡ t → (k : ℕ) → k ≡ length (cond t [] (b ∷ first_line s)) → k < length (b ∷ s) →
-        ((j : ℕ) → j ≡ length (first_line s) → j < length s → ends_line (get_or s j 0) (first (drop (suc j) s)) ≡ true) →
-        ends_line (get_or (b ∷ s) k 0) (first (drop (suc k) (b ∷ s))) ≡ true
-    go true p zero q h on = p
-    go true p (suc k) q h on = absurd (omega arith)
-    go false p zero q h on = absurd (omega arith)
-    go false p (suc k) q h on = on k (omega arith) (omega arith)
-
-later_feed : (s : Text) (e : ℕ) → e < length s → get_or s e 0 ≡ 10 → later_lines (drop e s) ≡ drop (e + 1) s
+later_so : (s : Text) → later_lines s ≡ drop (suc (place s)) s
 unfolding later_lines
-later_feed s e h f = rw (drop-cons s e 0 h, f, add-one e) refl
+later_so [] = refl
+later_so (b ∷ s) = go (eqb b 10) refl (later_so s)
+  where
+    go : (t : Bool) → eqb b 10 ≡ t → later_lines s ≡ drop (suc (place s)) s → later_lines (b ∷ s) ≡ drop (suc (place (b ∷ s))) (b ∷ s)
+    go true e h = rw (place_here b s e, e) refl
+    go false e h = rw (place_on b s e, e) h
 
-later_return : (s : Text) (e : ℕ) → e < length s → get_or s e 0 ≡ 13 → later_lines (drop e s) ≡ later_lines (drop (e + 1) s)
-unfolding later_lines
-later_return s e h f = rw (drop-cons s e 0 h, f, add-one e) refl
+no_end : (b c : ℕ) → eqb b 10 ≡ false → eqb c 10 ≡ false → ends_line b c ≡ false
+unfolding ends_line
+no_end b c e f = rw (e, f) (go (eqb b 13))
+  where
+    go : (t : Bool) → t && false ≡ false
+    go true = refl
+    go false = refl
 
-module _ (s : Text) (e : ℕ) (found : e ≡ length (first_line s)) where
-  pub line_within : e ≤ length s
-  line_within = omega (arith, ap length (line_take s) ∙ length-take (length (first_line s)) s)
+line_on : (b : ℕ) (s : Text) → ends_line b (first s) ≡ false → first_line (b ∷ s) ≡ b ∷ first_line s
+unfolding first_line
+line_on b s e = rw e refl
 
-  pub line_part : take (e - 0) (drop 0 s) ≡ first_line s
-  line_part = let z : e - 0 ≡ length (first_line s) = omega arith in rw z (sym (line_take s))
+line_some : (s : Text) → place s < length s → first_line s ≡ strip (take (place s) s)
+unfolding first_line ends_line strip first
+line_some [] h = absurd (omega arith)
+line_some (b ∷ []) h = go (eqb b 10) refl
+  where
+    go : (t : Bool) → eqb b 10 ≡ t → first_line (b ∷ []) ≡ strip (take (place (b ∷ [])) (b ∷ []))
+    go true e = rw (place_here b [] e, e) refl
+    go false e = absurd (omega (arith, place_on b [] e))
+line_some (b ∷ c ∷ s) h = go (eqb b 10) (eqb c 10) (eqb b 13) refl refl refl (line_some (c ∷ s))
+  where
+    go : (t u v : Bool) → eqb b 10 ≡ t → eqb c 10 ≡ u → eqb b 13 ≡ v → (place (c ∷ s) < length (c ∷ s) → first_line (c ∷ s) ≡ strip (take (place (c ∷ s)) (c ∷ s))) →
+        first_line (b ∷ c ∷ s) ≡ strip (take (place (b ∷ c ∷ s)) (b ∷ c ∷ s))
+    go true u v e f g k = rw (place_here b (c ∷ s) e, e) refl
+    go false true true e f g k = rw (place_on b (c ∷ s) e, place_here c s f, e, f, g) refl
+    go false true false e f g k = rw (place_on b (c ∷ s) e, place_here c s f, e, f, g) refl
+    go false false v e f g k =
+        let i = k (omega (arith, place_on b (c ∷ s) e)) in
+        line_on b (c ∷ s) (no_end b c e f) ∙ ap (λ t. b ∷ t) i ∙ rw (place_on b (c ∷ s) e, place_on c s f) refl
 
-  from_end : later_lines s ≡ later_lines (drop e s)
-  from_end = rw found (later_drop s)
+not_here : (b : ℕ) (s : Text) → length (b ∷ s) ≤ place (b ∷ s) → (eqb b 10 ≡ false) × (length s ≤ place s)
+not_here b s h = go (eqb b 10) refl
+  where
+    go : (t : Bool) → eqb b 10 ≡ t → (eqb b 10 ≡ false) × (length s ≤ place s)
+    go true e = absurd (omega (arith, place_here b s e))
+    go false e = (e, omega (arith, place_on b s e))
 
-  pub later_part : (z : ℕ) → FeedAt s e z → take (length s - z) (drop z s) ≡ later_lines s
-  later_part z v =
-      take_all (length s - z) (drop z s) (omega (arith, length-drop z s)) ∙
-      sym (from_end ∙
-      ⊎_elim (λ (w : (z ≡ e + 1) × (get_or s e 0 ≡ 10)). later_feed s e h w.1 ∙ rw w.0 refl)
-      (λ (w : (z ≡ e + 2) × ((get_or s e 0 ≡ 13) × (get_or s (e + 1) 0 ≡ 10))).
-      let q : z ≡ e + 1 + 1 = omega (arith, w.0) in
-      later_return s e h w.1.0 ∙ (later_feed s (e + 1) (omega (arith, w.0, v.high)) w.1.1 ∙ rw q refl))
-      v.cases)
+line_none : (s : Text) → length s ≤ place s → first_line s ≡ s
+unfolding first_line first
+line_none [] h = refl
+line_none (b ∷ []) h = line_on b [] (no_end b 0 (not_here b [] h).0 refl)
+line_none (b ∷ c ∷ s) h =
+    let v = not_here b (c ∷ s) h in
+    line_on b (c ∷ s) (no_end b c v.0 (not_here c s v.1).0) ∙ ap (λ t. b ∷ t) (line_none (c ∷ s) v.1)
+
+strip_cut : (t : Text) → strip t ≡ cond (pointwise eqb (drop (length t - 1) t) (13 ∷ [])) (take (length t - 1) t) t
+unfolding strip
+strip_cut [] = refl
+strip_cut (b ∷ []) = go (eqb b 13) refl
+  where
+    go : (t : Bool) → eqb b 13 ≡ t → strip (b ∷ []) ≡ cond (pointwise eqb (drop (length (b ∷ []) - 1) (b ∷ [])) (13 ∷ [])) (take (length (b ∷ []) - 1) (b ∷ [])) (b ∷ [])
+    go true e = rw e refl
+    go false e = rw e refl
+strip_cut (b ∷ c ∷ t) =
+    let n : length (b ∷ c ∷ t) - 1 ≡ suc (length (c ∷ t) - 1) = omega arith in
+    rw n (ap (λ r. b ∷ r) (strip_cut (c ∷ t)) ∙ push (pointwise eqb (drop (length (c ∷ t) - 1) (c ∷ t)) (13 ∷ [])) _ _)
+  where
+    push : (k : Bool) (x y : Text) → b ∷ cond k x y ≡ cond k (b ∷ x) (b ∷ y)
+    push true x y = refl
+    push false x y = refl
+
+-- the line, where `strip_suffix` gave r
+pub stripped : (t : Text) (r : Option (Bor Text)) (d e : Bor Text) →
+    MatchOption r (pointwise eqb (drop (length t - 1) t) (13 ∷ []) ≡ false)
+    (λ x. (pointwise eqb (drop (length t - 1) t) (13 ∷ []) ≡ true) × (x.now ≡ take (length t - 1) t) × (length x.now + 1 ≡ length t)) →
+    e ≡ unwrap_or r d → d.now ≡ t → e.now ≡ strip t
+stripped t None d e h g q = ap (λ (x : Bor Text). x.now) g ∙ q ∙ sym (strip_cut t ∙ rw h)
+stripped t (Some x) d e h g q = ap (λ (x : Bor Text). x.now) g ∙ h.1 ∙ sym (strip_cut t ∙ rw h.0)
+
+module _ (s : Text) (r : Option ℕ) (found : r ≡ cond (ltb (place s) (length s)) (Some (place s)) None) where
+  pub split_some : (k : ℕ) → r ≡ Some k → (line : Text) → line ≡ strip (take k s) → (line ≡ first_line s) × (take (length s - (k + 1)) (drop (k + 1) s) ≡ later_lines s)
+  split_some k e line h =
+      let f = cond_some (ltb (place s) (length s)) (place s) k (sym found ∙ e) in
+      let n : k + 1 ≡ suc (place s) = omega arith in
+      (h ∙ rw (← f.1) (sym (line_some s (ltb-true _ _ f.0))), take_all _ _ (omega (arith, length-drop (k + 1) s)) ∙ rw n (sym (later_so s)))
+
+  pub split_none : r ≡ None → (s ≡ first_line s) × (◌≡◌ {A = Text} [] (later_lines s))
+  split_none e = go (ltb (place s) (length s)) refl
     where
-      h : e < length s
-      h = omega (arith, v.low, v.high)
-
-  pub later_none : (z : ℕ) → z ≡ feed_end s e → z ≡ 0 → take (length s - e) (drop e s) ≡ later_lines s
-  unfolding later_lines
-  later_none z q y = let d = drop_past e s (go (ltb e (length s)) refl) in sym (from_end ∙ rw (d, take-nil {A = ℕ} (length s - e)))
-    where
-      go : (t : Bool) → ltb e (length s) ≡ t → length s ≤ e
-      go true p =
-          let k : ends_line (get_or s e 0) (first (drop (e + 1) s)) ≡ true = rw (add-one e) (line_stops s e found (ltb-true _ _ p)) in
-          absurd (no (sym (feed_none s e z q y) ∙ k))
-      go false p = ltb-false _ _ p
+      go : (t : Bool) → ltb (place s) (length s) ≡ t → (s ≡ first_line s) × (◌≡◌ {A = Text} [] (later_lines s))
+      go true f = absurd (none-some (place s) (sym e ∙ found ∙ rw f))
+      go false f =
+          let h : length s ≤ place s = ltb-false _ _ f in
+          let k : length s ≤ suc (place s) = omega arith in
+          (sym (line_none s h), sym (later_so s ∙ drop_of_length-le s k))

@@ -1,102 +1,106 @@
--- What is printed, written piece by piece.
-use Prim.Native.Nat.{ℕ, zero, suc, ◌+◌, ◌*◌, ◌/◌, ◌%◌, ◌≤◌, ◌<◌}
-use native.Mathlib.Nat.{zero-add}
+-- What is printed, piece by piece: of a text a page takes what it has room for.
+use Prim.Native.Nat.{ℕ, zero, suc, ◌+◌, ◌*◌, ◌-◌, ◌^◌, ◌≤◌, ◌<◌, min}
+use native.Mathlib.Numerals.{add-one}
+use native.Mathlib.Nat.{add-zero, min_comm}
 use native.Mathlib.Omega.{arith}
 use mathlib.Core.Path.{◌≡◌, refl, sym, ap, ◌∙◌}
-use mathlib.Core.List.{List, [], ◌∷◌, ◌++◌, append-nil}
-use mathlib.Core.Bool.{Bool, true, false, cond}
-use lib.ListN.{length, take, drop, get_or, length-append}
-use lib.Dec.{ltb}
-use borrow.Author.Tests.{lt-ltb, le-ltb, ltb-false}
+use mathlib.Core.List.{List, [], ◌∷◌, ◌++◌, map, append-nil, append_assoc}
+use lib.ListN.{length, take, drop, get_or, length-append, length-map, length-take}
+use lib.Seq.{take-suc, take_all, take-append-add}
+use borrow.Author.Tests.{lt-ltb, le-ltb}
+use Rattle.std.specs.Fmt.{decimal}
+use Rattle.std.proofs.lemmas.List.{take_min, get_or-map}
+use Rattle.std.proofs.Common.{Bor}
+use Rattle.std.proofs.lemmas.Fmt.{AppendsLastDigit, decimal_from_appends, length-decimal-le, length-decimal-le_succ}
 use Rattle.text.specs.Bytes.{Text, bytes}
-use Rattle.output.specs.Store.{farthest, past, Wrote}
-use Rattle.output.proofs.Stores.{take_stored, wrote_then}
-use Rattle.values.proofs.Writes.{wrote_long}
+use Rattle.output.specs.Store.{stored}
+use Rattle.output.proofs.Stores.{take_stored}
 use Rattle.answers.specs.Answer.{sum, total, accepted, lengths_of, buffer_after, stretch}
 use Rattle.answers.proofs.Stretch.{stretch_texts}
-use Rattle.xkbresolve.specs.Program.{digits, in_decimal, refusal_line, names, component_line, component_lines, stretch_lines}
+use Rattle.xkbresolve.specs.Program.{digits, in_decimal, refusal_line, names, component_line, component_lines, stretch_lines, most_printed, on_page}
 
 -- a number in decimal
 
-fewer : (n k : ℕ) → 10 ≤ k → k ≤ suc n → k / 10 ≤ n
-fewer n k h j = omega arith
-
-digits_same : (n m k : ℕ) → (10 ≤ k → digits n (k / 10) ≡ digits m (k / 10)) → digits (suc n) k ≡ digits (suc m) k
+appends : AppendsLastDigit digits
 unfolding digits
-digits_same n m k h = go (ltb k 10) refl
-  where
-    go : (t : Bool) → ltb k 10 ≡ t → digits (suc n) k ≡ digits (suc m) k
-    go true e = rw e
-    go false e = rw (e, h (ltb-false k 10 e))
+appends = record { one = λ k n h. rw (lt-ltb n 10 h); more = λ k n h. rw (le-ltb n 10 h) }
 
-digits_enough : (n m k : ℕ) → k ≤ n → k ≤ m → digits (suc n) k ≡ digits (suc m) k
-digits_enough zero m k h j = digits_same zero m k (λ l. absurd (omega arith))
-digits_enough (suc n) zero k h j = digits_same (suc n) zero k (λ l. absurd (omega arith))
-digits_enough (suc n) (suc m) k h j = digits_same (suc n) (suc m) k (λ l. digits_enough n m (k / 10) (fewer n k l h) (fewer m k l j))
+pub decimal_is : (n : ℕ) → n < 2 ^ 64 → in_decimal n ≡ decimal n
+unfolding in_decimal
+decimal_is n h = decimal_from_appends digits appends (suc n) n h (omega (arith, length-decimal-le_succ n h))
 
-decimal_step : (k : ℕ) → 10 ≤ k → in_decimal k ≡ in_decimal (k / 10) ++ ((48 + k % 10) ∷ [])
-unfolding in_decimal digits
-decimal_step k h = rw (le-ltb k 10 h) (ap (λ r. r ++ ((48 + k % 10) ∷ [])) (go k refl))
-  where
-    go : (n : ℕ) → k ≡ n → digits n (k / 10) ≡ digits (suc (k / 10)) (k / 10)
-    go zero e = absurd (omega arith)
-    go (suc n) e = digits_enough n (k / 10) (k / 10) (fewer n k h (omega arith)) (omega arith)
+-- what a page takes
 
-decimal_digit : (k : ℕ) → k < 10 → in_decimal k ≡ (48 + k) ∷ []
-unfolding in_decimal digits
-decimal_digit k h = rw (lt-ltb k 10 h)
+again : (m : ℕ) (a b : Text) → take m (take m a ++ b) ≡ take m (a ++ b)
+again zero a b = refl
+again (suc m) [] b = refl
+again (suc m) (x ∷ a) b = ap (λ r. x ∷ r) (again m a b)
 
-pub digits_few : (n k : ℕ) → length (digits n k) ≤ n
-unfolding digits
-digits_few zero k = omega arith
-digits_few (suc n) k = go (ltb k 10) (digits_few n (k / 10))
-  where
-    go : (t : Bool) → length (digits n (k / 10)) ≤ n → length (cond t ((48 + k) ∷ []) (digits n (k / 10) ++ ((48 + k % 10) ∷ []))) ≤ suc n
-    go true h = omega arith
-    go false h = simp length-append (omega (arith, h))
+stored_so : (m : ℕ) (d t : Text) (n k : ℕ) → n ≤ m → length d ≡ m → k ≡ min (length t) (m - n) →
+    take (n + length (take k t)) (stored d n (take k t)) ≡ take m (take n d ++ t)
+stored_so m d t n k h l e =
+    let a : length (take n d) ≡ n = length-take n d ∙ omega arith in
+    let b : m ≡ length (take n d) + (m - n) = omega arith in
+    let c : take k t ≡ take (m - n) t = rw (e, min_comm (length t) (m - n)) (take_min (m - n) t) in
+    take_stored d n (take k t) (omega (arith, length-take k t)) ∙ rw c (sym (ap (λ j. take j (take n d ++ t)) b ∙ take-append-add (take n d) t (m - n)))
 
-pub wrote_digit : (d d' : Text) (at k r : ℕ) → k < 10 → Wrote d d' at ((48 + k) ∷ []) r → Wrote d d' at (in_decimal k) r
-wrote_digit d d' at k r h w = rw (decimal_digit k h) w
+pub put_so : (d t : Text) (n k : ℕ) → n ≤ most_printed → length d ≡ most_printed → k ≡ min (length t) (most_printed - n) →
+    take (n + length (take k t)) (stored d n (take k t)) ≡ on_page (take n d ++ t)
+unfolding on_page
+put_so d t n k h l e = stored_so most_printed d t n k h l e
 
-pub wrote_digits : (d d' d'' : Text) (at k a r : ℕ) → 10 ≤ k → length d ≤ farthest → Wrote d d' at (in_decimal (k / 10)) a → Wrote d' d'' a ((48 + k % 10) ∷ []) r →
-    Wrote d d'' at (in_decimal k) r
-wrote_digits d d' d'' at k a r h l v w = rw (decimal_step k h) (wrote_then d d' d'' at (in_decimal (k / 10)) ((48 + k % 10) ∷ []) a r l v w)
+pub put_on : (t x : Text) → on_page (on_page t ++ x) ≡ on_page (t ++ x)
+unfolding on_page
+put_on t x = again most_printed t x
 
--- pieces one after the other
+-- a text more on a page that holds t
+more : (p p' t x : Text) → p ≡ on_page t → p' ≡ on_page (p ++ x) → p' ≡ on_page (t ++ x)
+more p p' t x v e = e ∙ rw v (put_on t x)
 
-kept : (d d' : Text) (at : ℕ) (t : Text) (r : ℕ) → length d ≤ farthest → Wrote d d' at t r → length d' ≤ farthest
-kept d d' at t r l w = omega (arith, wrote_long d d' at t r w)
-
-pub wrote_refusal : (d d₁ d₂ d₃ d₄ d₅ : Text) (n p a b c e r : ℕ) → length d ≤ farthest →
-    Wrote d d₁ 0 (bytes "refused ") a → Wrote d₁ d₂ a (in_decimal n) b → Wrote d₂ d₃ b (bytes " at ") c → Wrote d₃ d₄ c (in_decimal p) e → Wrote d₄ d₅ e (10 ∷ []) r →
-    Wrote d d₅ 0 (refusal_line n p) r
+pub refusal_put : (p₀ p₁ p₂ p₃ p₄ p₅ : Text) (n k : ℕ) → p₀ ≡ [] → p₁ ≡ on_page (p₀ ++ bytes "refused ") → p₂ ≡ on_page (p₁ ++ in_decimal n) →
+    p₃ ≡ on_page (p₂ ++ bytes " at ") → p₄ ≡ on_page (p₃ ++ in_decimal k) → p₅ ≡ on_page (p₄ ++ (10 ∷ [])) → p₅ ≡ on_page (refusal_line n k)
 unfolding refusal_line
-wrote_refusal d d₁ d₂ d₃ d₄ d₅ n p a b c e r l v₁ v₂ v₃ v₄ v₅ =
-    let l₁ = kept d d₁ 0 _ a l v₁ in
-    let l₂ = kept d₁ d₂ a _ b l₁ v₂ in
-    let l₃ = kept d₂ d₃ b _ c l₂ v₃ in
-    wrote_then d d₁ d₅ 0 _ _ a r l v₁ (wrote_then d₁ d₂ d₅ a _ _ b r l₁ v₂ (wrote_then d₂ d₃ d₅ b _ _ c r l₂ v₃ (wrote_then d₃ d₄ d₅ c _ _ e r l₃ v₄ v₅)))
+refusal_put p₀ p₁ p₂ p₃ p₄ p₅ n k e₀ e₁ e₂ e₃ e₄ e₅ =
+    let a : p₁ ≡ on_page (bytes "refused ") = e₁ ∙ rw e₀ refl in
+    more p₄ p₅ _ _ (more p₃ p₄ _ _ (more p₂ p₃ _ _ (more p₁ p₂ _ _ a e₂) e₃) e₄) e₅ ∙ simp append_assoc
 
-pub wrote_component : (d d₁ d₂ d₃ name v : Text) (at a b r : ℕ) → length d ≤ farthest → Wrote d d₁ at name a → Wrote d₁ d₂ a v b → Wrote d₂ d₃ b (10 ∷ []) r →
-    Wrote d d₃ at (component_line name v) r
-unfolding component_line
-wrote_component d d₁ d₂ d₃ name v at a b r l v₁ v₂ v₃ =
-    wrote_then d d₁ d₃ at _ _ a r l v₁ (wrote_then d₁ d₂ d₃ a _ _ b r (kept d d₁ at _ a l v₁) v₂ v₃)
+-- the lines of the first c components are on the page; ns are the names as the code has them
+pub record Lined (x : Text) (ls : List ℕ) (ns : List (Bor Text)) (p : Text) (c : ℕ) : Type 0 where
+  pub named : map (λ t. t.now) ns ≡ names
+  pub so : p ≡ on_page (stretch_lines (take c names) 0 x ls)
 
-pub wrote_components : (d d₁ d₂ d₃ d₄ d₅ x : Text) (ls : List ℕ) (a b c e r : ℕ) → length d ≤ farthest →
-    Wrote d d₁ 0 (component_line (bytes "keycodes=") (stretch x ls 0)) a →
-    Wrote d₁ d₂ a (component_line (bytes "types=") (stretch x ls 1)) b →
-    Wrote d₂ d₃ b (component_line (bytes "compat=") (stretch x ls 2)) c →
-    Wrote d₃ d₄ c (component_line (bytes "symbols=") (stretch x ls 3)) e →
-    Wrote d₄ d₅ e (component_line (bytes "geometry=") (stretch x ls 4)) r →
-    Wrote d d₅ 0 (stretch_lines names 0 x ls) r
-unfolding stretch_lines
-wrote_components d d₁ d₂ d₃ d₄ d₅ x ls a b c e r l v₁ v₂ v₃ v₄ v₅ =
-    let l₁ = kept d d₁ 0 _ a l v₁ in
-    let l₂ = kept d₁ d₂ a _ b l₁ v₂ in
-    let l₃ = kept d₂ d₃ b _ c l₂ v₃ in
-    rw (append-nil (component_line (bytes "geometry=") (stretch x ls 4)))
-    (wrote_then d d₁ d₅ 0 _ _ a r l v₁ (wrote_then d₁ d₂ d₅ a _ _ b r l₁ v₂ (wrote_then d₂ d₃ d₅ b _ _ c r l₂ v₃ (wrote_then d₃ d₄ d₅ c _ _ e r l₃ v₄ v₅))))
+on_none : on_page [] ≡ []
+unfolding on_page
+on_none = refl
+
+module _ (x : Text) (ls : List ℕ) where
+  lines_append : (ns : List Text) (c : ℕ) (n : Text) → stretch_lines (ns ++ (n ∷ [])) c x ls ≡ stretch_lines ns c x ls ++ component_line n (stretch x ls (c + length ns))
+  unfolding stretch_lines
+  lines_append [] c n = rw (append-nil (component_line n (stretch x ls c)), add-zero c)
+  lines_append (m ∷ ns) c n =
+      let e : c + 1 + length ns ≡ c + suc (length ns) = omega arith in
+      rw (lines_append ns (c + 1) n, e) (sym (append_assoc (component_line m (stretch x ls c)) _ _))
+
+  pub lined_start : (ns : List (Bor Text)) (p : Text) → map (λ t. t.now) ns ≡ names → p ≡ [] → Lined x ls ns p 0
+  unfolding stretch_lines
+  lined_start ns p q e = record { named = q; so = e ∙ sym on_none }
+
+  pub lined_more : (ns : List (Bor Text)) (p p₁ p₂ p₃ v : Text) (m : Bor Text) (c : ℕ) → Lined x ls ns p c → c < 5 → v ≡ stretch x ls c →
+      p₁ ≡ on_page (p ++ (get_or ns c m).now) → p₂ ≡ on_page (p₁ ++ v) → p₃ ≡ on_page (p₂ ++ (10 ∷ [])) → Lined x ls ns p₃ (c + 1)
+  unfolding component_line
+  lined_more ns p p₁ p₂ p₃ v m c l h b e₁ e₂ e₃ =
+      let n = (get_or ns c m).now in
+      let k : c < length ns = omega (arith, length-map ns (λ (t : Bor Text). t.now), ap length l.named) in
+      let a : n ≡ get_or names c [] = sym (get_or-map (λ (t : Bor Text). t.now) ns c m [] k) ∙ ap (λ ts. get_or ts c []) l.named in
+      let t : take (c + 1) names ≡ take c names ++ (n ∷ []) = rw (add-one c, a) (take-suc names c [] h) in
+      let z : 0 + length (take c names) ≡ c = omega (arith, length-take c names) in
+      record {
+        named = l.named;
+        so = more p₂ p₃ _ _ (more p₁ p₂ _ _ (more p p₁ _ _ l.so e₁) e₂) e₃ ∙ rw (t, lines_append (take c names) 0 n, z, b) (simp append_assoc);
+      }
+
+  pub lined_end : (ns : List (Bor Text)) (p : Text) (c : ℕ) → Lined x ls ns p c → 5 ≤ c → p ≡ on_page (stretch_lines names 0 x ls)
+  lined_end ns p c l h = l.so ∙ rw (take_all c names h) refl
 
 -- the lines of a buffer that holds the ten texts are those of the texts
 pub lines_same : (ns : List Text) (c : ℕ) (d : Text) (ts : List Text) → c + length ns ≤ 5 →
@@ -134,18 +138,10 @@ lines_length (n ∷ ns) c ts =
     let h = rw e at (lines_length ns (c + 1) ts) in
     simp length-append (omega (arith, h, two ts (2 * c)))
 
--- what was written is what stands at the start of the buffer
-module _ (d d' t : Text) (r : ℕ) (size : length t ≤ length d) (low : length d ≤ farthest) (w : Wrote d d' 0 t r) where
-  counted : r ≡ length t
-  unfolding past
-  counted = omega (arith, w.next)
+pub decimal_short : (k n : ℕ) → 0 < k → n < 10 ^ k → n < 2 ^ 64 → length (in_decimal n) ≤ k
+decimal_short k n z h l = rw (decimal_is n l) (length-decimal-le k n z h l)
 
-  pub out_text : take r d' ≡ t
-  out_text =
-      let e : r ≡ 0 + length t = counted ∙ sym (zero-add (length t)) in
-      rw (e, w.text) (take_stored d 0 t (omega arith))
-
-  pub out_counts : (r ≤ length d') × (r ≡ length (take r d'))
-  out_counts =
-      let l : length d' ≡ length d = wrote_long d d' 0 t r w in
-      (omega (arith, counted), sym (ap length out_text ∙ sym counted))
+-- a text that a page has room for
+pub on_whole : (t : Text) → length t ≤ most_printed → on_page t ≡ t
+unfolding on_page
+on_whole t h = take_all most_printed t h

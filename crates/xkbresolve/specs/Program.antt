@@ -1,5 +1,5 @@
 -- The program: what it reads and what it prints. Document 01, "Checked examples"; document 02, #103.
-use Rattle.std.specs.Prelude.{ℕ, zero, suc, ◌+◌, ◌*◌, ◌/◌, ◌%◌, List, [], ◌∷◌, ◌++◌, cond, length, get_or, eqb, ltb}
+use Rattle.std.specs.Prelude.{ℕ, zero, suc, ◌+◌, ◌*◌, ◌/◌, ◌%◌, List, [], ◌∷◌, ◌++◌, cond, length, take, get_or, eqb, ltb}
 use Rattle.text.specs.Limits.{longest_file}
 use Rattle.text.specs.Bytes.{Text, bytes, first}
 use Rattle.text.specs.Marks.{ends_line}
@@ -66,3 +66,7 @@ stretch_lines (n ∷ ns) c d ls = component_line n (stretch d ls c) ++ stretch_l
 -- room for all that can be printed
 abbrev pub most_printed : ℕ
 most_printed = 65600
+
+-- what a page has room for of a text
+unfoldable pub on_page : Text → Text
+on_page t = take most_printed t

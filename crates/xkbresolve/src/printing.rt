@@ -1,59 +1,97 @@
-// An answer as it is printed, written into a lent buffer.
-ghost use Rattle.std.specs.Prelude.{◌≤◌, length};
-ghost use Rattle.output.specs.Store.{farthest, Wrote};
-ghost use Rattle.answers.specs.Answer.{stretch};
-ghost use Rattle.xkbresolve.specs.Program.{in_decimal, refusal_line, names, component_line, stretch_lines};
+// What is printed of an answer.
+ghost use Rattle.std.specs.Prelude.{◌≡◌, ◌++◌, []};
+ghost use Rattle.text.specs.Told.{number_of};
+ghost use Rattle.xkbresolve.specs.Program.{in_decimal, refusal_line, names, stretch_lines, on_page};
 
 use answers::components::component;
-use values::write::{put_byte, put_text};
+use itoa::Buffer;
+use output::store;
+use std::marker::Model;
+use text::faults::Refusal;
 
-fn put_decimal(k: usize, out: &mut [u8], at: u32) -> u32
-    requires { length out.old ≤ farthest }
-    ensures { Wrote out.old out.new at (in_decimal k) result }
-{
-    if k < 10 {
-        return put_byte((48 + k) as u8, out, at);
+// Room for all that can be printed.
+const MOST_PRINTED: usize = 65600;
+
+// The names of the five components.
+const NAMES: [&[u8]; 5] = [
+    b"keycodes=",
+    b"types=",
+    b"compat=",
+    b"symbols=",
+    b"geometry=",
+];
+
+// Bytes written one after the other, as far as there is room: in a clause the list of them.
+#[derive(Drop)]
+pub struct Page {
+    bytes: [u8; 65600],
+    used: usize,
+}
+
+impl Model for Page {
+    ghost use Rattle.std.specs.Prelude.{ℕ, List, ◌≤◌, take};
+
+    ghost Value = { List ℕ };
+
+    ghost view = { λ p. take p.used p.bytes };
+
+    ghost invariant = { λ p. p.used ≤ 65600 };
+}
+
+impl Page {
+    fn new() -> Page
+        ensures { result ≡ [] }
+    {
+        Page {
+            bytes: [0; 65600],
+            used: 0,
+        }
     }
-    let next = put_decimal(k / 10, out, at);
-    put_byte((48 + k % 10) as u8, out, next)
-}
 
-pub fn put_refusal(number: usize, place: usize, out: &mut [u8]) -> u32
-    requires { length out.old ≤ farthest }
-    ensures { Wrote out.old out.new 0 (refusal_line number place) result }
-{
-    let a = put_text(b"refused ", out, 0);
-    let b = put_decimal(number, out, a);
-    let c = put_text(b" at ", out, b);
-    let d = put_decimal(place, out, c);
-    put_byte(10, out, d)
-}
+    pub fn bytes(&self) -> &[u8]
+        ensures { result.now ≡ self.now }
+    {
+        &self.bytes[..self.used]
+    }
 
-// The line of component c.
-fn put_component(
-    name: &[u8],
-    texts: &[u8],
-    lengths: [u32; 10],
-    c: usize,
-    out: &mut [u8],
-    at: u32,
-) -> u32
-    requires { length out.old ≤ farthest }
-    ensures { Wrote out.old out.new at (component_line name.now (stretch texts.now lengths c)) result }
-{
-    let a = put_text(name, out, at);
-    let b = put_text(component(texts, lengths, c), out, a);
-    put_byte(10, out, b)
-}
+    fn put(&mut self, text: &[u8])
+        ensures { self.new ≡ on_page (self.old ++ text.now) }
+    {
+        let room = MOST_PRINTED - self.used;
+        let fitting = &text[..text.len().min(room)];
+        store(fitting, &mut self.bytes, self.used);
+        self.used += fitting.len();
+    }
 
-// The lines of the five components.
-pub fn put_components(texts: &[u8], lengths: [u32; 10], out: &mut [u8]) -> u32
-    requires { length out.old ≤ farthest }
-    ensures { Wrote out.old out.new 0 (stretch_lines names 0 texts.now lengths) result }
-{
-    let a = put_component(b"keycodes=", texts, lengths, 0, out, 0);
-    let b = put_component(b"types=", texts, lengths, 1, out, a);
-    let c = put_component(b"compat=", texts, lengths, 2, out, b);
-    let d = put_component(b"symbols=", texts, lengths, 3, out, c);
-    put_component(b"geometry=", texts, lengths, 4, out, d)
+    fn put_number(&mut self, n: usize)
+        ensures { self.new ≡ on_page (self.old ++ in_decimal n) }
+    {
+        self.put(Buffer::new().format(n).as_bytes());
+    }
+
+    // The line of a refusal.
+    pub fn of_refusal(refusal: Refusal) -> Page
+        ensures { result ≡ on_page (refusal_line (number_of refusal.fault) refusal.place) }
+    {
+        let mut page = Page::new();
+        page.put(b"refused ");
+        page.put_number(refusal.fault.number());
+        page.put(b" at ");
+        page.put_number(refusal.place);
+        page.put(b"\n");
+        page
+    }
+
+    // The lines of the five components.
+    pub fn of_components(texts: &[u8], lengths: [u32; 10]) -> Page
+        ensures { result ≡ on_page (stretch_lines names 0 texts.now lengths) }
+    {
+        let mut page = Page::new();
+        for (c, name) in NAMES.iter().enumerate() {
+            page.put(name);
+            page.put(component(texts, lengths, c));
+            page.put(b"\n");
+        }
+        page
+    }
 }

@@ -44,7 +44,7 @@ sent_count t x ns h = omega (arith, texts_count x ns)
 -- the entry that writes
 
 module _ (t : Texts) (x s d : Text) where
-  write_high : (p : Refusal) → entry_writing (length d) t x s ≡ refused p → Numbered p
+  pub write_high : (p : Refusal) → entry_writing (length d) t x s ≡ refused p → Numbered p
   unfolding entry_writing entry_write_refusals
   write_high p h =
       first_numbered (profile_refusals t ++ refused_if (ltb (length s) sheet_length || unwritable (length d) t x (lengths_in s)) 11 0) (lent_texts t x (lengths_in s)) p

@@ -1,7 +1,7 @@
 -- The answer for C: that of the resolve, but for a sheet that is too short.
-use Prim.Native.Nat.{ℕ, ◌+◌, ◌*◌, ◌^◌, ◌≤◌, ◌<◌}
+use Prim.Native.Nat.{ℕ, suc, ◌+◌, ◌*◌, ◌^◌, ◌≤◌, ◌<◌}
 use native.Mathlib.Omega.{arith}
-use mathlib.Core.Path.{◌≡◌, refl, sym, ◌∙◌}
+use mathlib.Core.Path.{◌≡◌, refl, sym, ap, ◌∙◌}
 use mathlib.Core.List.{List, [], ◌∷◌, ◌++◌, map, append-nil}
 use mathlib.Core.Bool.{Bool, true, false}
 use lib.ListN.{length, drop}
@@ -17,8 +17,9 @@ use Rattle.profile.specs.Profile.{Texts}
 use Rattle.profile.specs.Options.{Alike, Within, with_options}
 use Rattle.profile.proofs.Options.{same_profile, same_refusals}
 use Rattle.profile.proofs.Counts.{untested}
-use Rattle.answers.specs.Answer.{ten_texts, sum, total, refusals, Answer, refused, accepted, first_of, answer, lengths_of, stretch_start, stretch_length, Answered}
+use Rattle.answers.specs.Answer.{ten_texts, sum, total, refusals, Answer, refused, accepted, first_of, answer, place_of, lengths_of, stretch_start, stretch_length, Answered}
 use Rattle.answers.proofs.Answers.{accepted_first, answered}
+use Rattle.answers.proofs.Places.{place_low}
 use Rattle.answers.proofs.Accepted.{texts_fit}
 use Rattle.answers.proofs.LineEnds.{crlf_texts, crlf_refusals}
 use Rattle.xkbrules.specs.Sheet.{sheet_length, entry_refusals, entry_answer, sheet_after, lengths_in, component_code}
@@ -55,6 +56,22 @@ module _ (room sheet : ℕ) (f : Text) (t : Texts) where
       go : (b : Bool) → ltb sheet sheet_length ≡ b → Answered room (entry_answer room sheet f t)
       go true e = short (answer room f t) (ltb-true sheet sheet_length e) refl (answered room f t)
       go false e = rw (entry_same (ltb-false sheet sheet_length e)) (answered room f t)
+
+  -- no place is over 65,537
+  pub entry_place : (p : Refusal) → entry_answer room sheet f t ≡ refused p → p.place ≤ 65537
+  unfolding place_of
+  entry_place p h = go (ltb sheet sheet_length) refl
+    where
+      same : (q : Refusal) → refused q ≡ refused p → q.place ≡ p.place
+      same q e = let k : q ≡ p = cc in ap (λ (r : Refusal). r.place) k
+
+      short : (a : Answer) → sheet < sheet_length → answer room f t ≡ a → place_of a ≤ suc longest_file → p.place ≤ 65537
+      short (refused r) s e l = omega (arith, same r (sym (entry_refused r e) ∙ h))
+      short (accepted ts) s e l = omega (arith, same (record { number = 11; place = 0 }) (sym (entry_short ts s e) ∙ h))
+
+      go : (b : Bool) → ltb sheet sheet_length ≡ b → p.place ≤ 65537
+      go true e = short (answer room f t) (ltb-true sheet sheet_length e) refl (place_low room f t)
+      go false e = omega (arith, ap place_of (sym (entry_same (ltb-false sheet sheet_length e)) ∙ h), place_low room f t)
 
   -- an accepted answer is that of the resolve, and the sheet is long enough
   module _ (ts : List Text) (h : entry_answer room sheet f t ≡ accepted ts) where

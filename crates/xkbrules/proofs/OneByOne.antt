@@ -67,3 +67,7 @@ module _ (s : Text) where
   pub read_all : (ns : List ℕ) (i : ℕ) → length ns ≡ 10 → i ≤ 10 → 10 ≤ i → take i ns ≡ numbers_from s 0 i → ns ≡ lengths_in s
   unfolding lengths_in
   read_all ns i ten h k e = let z : i ≡ 10 = omega arith in sym (take_all 10 ns (omega arith)) ∙ (rw z at e)
+
+-- a sheet of k numbers, whose size is named
+pub sheet_put : (s s' : Text) (ns : List ℕ) (k : ℕ) → length ns ≡ k → s' ≡ concat_map little_endian ns ++ drop (4 * length ns) s → s' ≡ concat_map little_endian ns ++ drop (4 * k) s
+sheet_put s s' ns k all e = e ∙ rw all

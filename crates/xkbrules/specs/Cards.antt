@@ -1,6 +1,9 @@
 -- What C sees of a card. Document 02, #102, with the sheets of lengths that document 01 has: 40 bytes for ten lengths, and 56 for fourteen.
-use Rattle.std.specs.Prelude.{ℕ, ◌+◌, ◌*◌, ◌^◌, ◌≡◌, List, ◌++◌, map, ◌||◌, length, drop, ltb}
+use Rattle.std.specs.Prelude.{ℕ, ◌+◌, ◌*◌, ◌^◌, ◌≡◌, List, ◌++◌, map, ◌||◌, length, drop, ltb, Result, MatchResult}
 use Rattle.text.specs.declared.Refusal.{Refusal}
+use Rattle.text.specs.declared.faults.Fault.{Fault}
+use Rattle.text.specs.declared.faults.Refusal.{Refusal as Refused}
+use Rattle.text.specs.Told.{number_of as fault_of, told_refusal}
 use Rattle.text.specs.Bytes.{Text, concat_map}
 use Rattle.text.specs.Refusals.{refused_if}
 use Rattle.profile.specs.Profile.{Texts}
@@ -41,6 +44,19 @@ entry_reading room sheet s = first_of (entry_read_refusals room sheet s) (texts_
 unfoldable pub card_sheet_after : Text → Answer → Text
 card_sheet_after s (refused r) = s
 card_sheet_after s (accepted ts) = concat_map little_endian (map length ts) ++ drop card_sheet_length s
+
+-- The same results as the code has them: the length of a card that is written, or the first refusal; nothing for a card that is read, or a fault.
+pub record EntryWrites (t : Texts) (x s d d' : Text) (r : Result ℕ Refused) : Type 0 where
+  pub result : MatchResult r
+      (λ n. (entry_writing (length d) t x s ≡ accepted (lent_texts t x (lengths_in s))) × (n ≡ length (card_of (lent_texts t x (lengths_in s)))))
+      (λ e. entry_writing (length d) t x s ≡ refused (told_refusal e))
+  pub card : d' ≡ card_after d (entry_writing (length d) t x s)
+
+pub record EntryReads (c d d' s s' : Text) (r : Result (Unit {0}) Fault) : Type 0 where
+  pub result : MatchResult r (λ _. entry_reading (length d) (length s) c ≡ accepted (texts_on c))
+      (λ f. entry_reading (length d) (length s) c ≡ refused (record { number = fault_of f; place = 0 }))
+  pub texts : d' ≡ buffer_after d (entry_reading (length d) (length s) c)
+  pub sheet : s' ≡ card_sheet_after s (entry_reading (length d) (length s) c)
 
 -- What the entry that writes does: of four texts t, a slice x of texts and a sheet s of ten lengths it returns n, and the card's buffer goes from d to d'.
 pub record CardWrites (t : Texts) (x s d d' : Text) (n : ℕ) : Type 0 where

@@ -1,10 +1,12 @@
 -- What C sees of an answer. Document 01, "What the resolver does": the number returned and the sheet of lengths.
-use Rattle.std.specs.Prelude.{ℕ, zero, suc, ◌+◌, ◌*◌, ◌/◌, ◌%◌, ◌^◌, List, [], ◌∷◌, ◌++◌, map, ◌||◌, cond, length, get_or, drop, leb, ltb}
+use Rattle.std.specs.Prelude.{ℕ, zero, suc, ◌≡◌, Result, MatchResult, ◌+◌, ◌*◌, ◌/◌, ◌%◌, ◌^◌, List, [], ◌∷◌, ◌++◌, map, ◌||◌, cond, length, get_or, drop, leb, ltb}
 use Rattle.text.specs.declared.Refusal.{Refusal}
+use Rattle.text.specs.declared.faults.Refusal.{Refusal as Refused}
+use Rattle.text.specs.Told.{told_refusal}
 use Rattle.text.specs.Bytes.{Text, concat_map}
 use Rattle.text.specs.Refusals.{refused_if}
 use Rattle.profile.specs.Profile.{Texts}
-use Rattle.answers.specs.Answer.{ten_texts, refusals, Answer, refused, accepted, first_of, number_of, place_of, sum, stretch_start, stretch_length}
+use Rattle.answers.specs.Answer.{ten_texts, refusals, Answer, refused, accepted, first_of, number_of, place_of, buffer_after, sum, stretch_start, stretch_length}
 
 -- "the ten lengths are written as little-endian 32-bit numbers into the first 40 bytes of a lent sheet"
 abbrev pub sheet_length : ℕ
@@ -46,3 +48,9 @@ unfoldable pub component_code : ℕ → Text → ℕ → ℕ
 component_code room s c =
     cond (ltb 4 c || (ltb (length s) sheet_length || (ltb room (sum (lengths_in s)) || leb (2 ^ 32) (sum (lengths_in s))))) 0
     (stretch_start (lengths_in s) c * 2 ^ 32 + stretch_length (lengths_in s) c)
+
+-- What a resolve does with a buffer for the texts, which goes from d to d', and a sheet, which goes from s to s', by its result in the code.
+pub record EntryResolves (f : Text) (t : Texts) (d d' s s' : Text) (r : Result (Unit {0}) Refused) : Type 0 where
+  pub result : MatchResult r (λ _. entry_answer (length d) (length s) f t ≡ accepted (ten_texts f t)) (λ e. entry_answer (length d) (length s) f t ≡ refused (told_refusal e))
+  pub texts : d' ≡ buffer_after d (entry_answer (length d) (length s) f t)
+  pub sheet : s' ≡ sheet_after s (entry_answer (length d) (length s) f t)

@@ -1,18 +1,28 @@
 // What the entries for C that write and read a desk card do, on byte slices only.
-ghost use Rattle.std.specs.Prelude.{◌≡◌, ◌+◌, ◌*◌, ◌^◌, ◌≤◌};
 ghost use Rattle.profile.specs.Profile.{texts_of};
-ghost use Rattle.xkbrules.specs.Cards.{CardWrites, CardReads};
+ghost use Rattle.xkbrules.specs.Cards.{EntryWrites, EntryReads, CardWrites, CardReads};
 
-use super::lengths::{lengths_in, put_card_lengths};
+use super::lengths::{lengths_in, put_lengths};
+use super::{NO_ROOM, packed};
 use card::reading::{judge, read};
 use card::writing::write;
+use profile::texts::Texts;
+use text::faults::{Fault, Refusal};
 
-// A refusal's number and place in one number: 16 is the highest, and a place is a text of the profile or 0.
-fn refusal(number: usize, place: usize) -> u64
-    requires { (number ≤ 16) × (place ≤ 4) }
-    ensures { result ≡ number * 2 ^ 48 + place }
+// With a sheet under 40 bytes nothing is written, and the profile alone is checked.
+fn write_card(
+    profile: &Texts,
+    texts: &[u8],
+    sheet: &[u8],
+    card: &mut [u8],
+) -> Result<usize, Refusal>
+    ensures { EntryWrites profile.now texts.now sheet.now card.old card.new result }
 {
-    (number * 281474976710656 + place) as u64
+    if sheet.len() < 40 {
+        profile.check()?;
+        return Err(NO_ROOM);
+    }
+    write(profile, texts, lengths_in(sheet), card)
 }
 
 // Writes the card of a profile of four texts and of ten texts that `texts` begins with; `sheet` has their lengths. Gives the card's length, or a refusal's
@@ -29,38 +39,38 @@ pub fn xkbrules_card_write(
     ensures { CardWrites (texts_of model.now layouts.now variants.now options.now)
         texts.now sheet.now card.old card.new result }
 {
-    if sheet.len() < 40 {
-        let p = profile::check(model, layouts, variants, options);
-        if p.number == 0 {
-            return refusal(11, 0);
-        }
-        return refusal(p.number, p.place);
+    let profile = Texts {
+        model,
+        layouts,
+        variants,
+        options,
+    };
+    match write_card(&profile, texts, sheet, card) {
+        Ok(length) => length as u64,
+        Err(refusal) => packed(refusal),
     }
-    let lengths = lengths_in(sheet);
-    let w = write(model, layouts, variants, options, texts, lengths, card);
-    if w.number == 0 {
-        return w.length as u64;
+}
+
+// With a sheet under 56 bytes nothing is written, so the card is only judged.
+fn read_card(card: &[u8], texts: &mut [u8], sheet: &mut [u8]) -> Result<(), Fault>
+    ensures { EntryReads card.now texts.old texts.new sheet.old sheet.new result }
+{
+    if sheet.len() < 56 {
+        judge(card)?;
+        return Err(Fault::NoRoom);
     }
-    refusal(w.number, w.place)
+    let lengths = read(card, texts)?;
+    put_lengths(sheet, &lengths);
+    Ok(())
 }
 
 // Reads a card: `texts` then starts with its fourteen texts and `sheet` with their lengths, and the answer is 0. A refusal is its number times 2^48 and
-// leaves both as they were; with a sheet under 56 bytes nothing is written, so the card is only judged.
+// leaves both as they were.
 pub fn xkbrules_card_read(card: &[u8], texts: &mut [u8], sheet: &mut [u8]) -> u64
     ensures { CardReads card.now texts.old texts.new sheet.old sheet.new result }
 {
-    if sheet.len() < 56 {
-        let j = judge(card);
-        if j.number == 0 {
-            return refusal(11, 0);
-        }
-        return refusal(16, 0);
+    match read_card(card, texts, sheet) {
+        Ok(()) => 0,
+        Err(fault) => packed(Refusal { fault, place: 0 }),
     }
-    let c = read(card, texts);
-    if c.number == 0 {
-        let lengths = c.lengths;
-        put_card_lengths(sheet, lengths);
-        return 0;
-    }
-    refusal(c.number, 0)
 }

@@ -1,14 +1,15 @@
-use Rattle.card.proofs.Judged.{found_sectioned, judge_broken, judge_beyond, judge_good}
+use mathlib.Core.Path.{ap, ◌∙◌}
+use mathlib.Core.List.{map}
+use lib.ListN.{length}
+use Rattle.std.proofs.lemmas.Result.{err_from_is_err_and}
+use Rattle.card.proofs.Judged.{judge_bad, judge_good}
 use Rattle.card.proofs.reading.judge.Goals as goal
 
-pub returns-then-f : goal.returns-then-f
-returns-then-f c = judge_broken _ _ _ c.find_sections-f.ensures c.if-f.true c.refused.ensures
-
-pub check_profile-p-requires : goal.check_profile-p-requires
-check_profile-p-requires c = found_sectioned _ _ c.find_sections-f.ensures c.if-f.false
-
-pub returns-then-fine : goal.returns-then-fine
-returns-then-fine c = judge_good _ _ (found_sectioned _ _ c.find_sections-f.ensures c.if-f.false) _ c.check_profile-p.ensures c.if-fine.true
+pub returns-in_err-judged : goal.returns-in_err-judged
+returns-in_err-judged c =
+    let p = err_from_is_err_and c.from_residual.result c.from_residual.ensures.1 in
+    let e = c.in_err-judged.ensures in
+    rw (p.1, p.2, e.0) (judge_bad _ e.1)
 
 pub returns : goal.returns
-returns c = judge_beyond _ _ (found_sectioned _ _ c.find_sections-f.ensures c.if-f.false) _ c.check_profile-p.ensures _ c.if-fine.false c.refused-2.ensures
+returns c = let v = c.in_ok-judged.ensures in (judge_good _ _ v, c.lengths.ensures ∙ ap (map length) v.texts)

@@ -1,19 +1,17 @@
-use native.Mathlib.Omega.{arith}
-use mathlib.Core.Path.{refl, sym, ◌∙◌}
-use Rattle.card.proofs.WriteLoops.{long_hit, long_more, long_end}
+use borrow.Author.Rules.{rules}
+use borrow.Author.Tests.{tests}
+use mathlib.Core.Path.{refl, ◌∙◌}
+use mathlib.Core.Bool.{◌||◌}
+use Rattle.std.specs.List.{list_any}
+use Rattle.std.proofs.lemmas.Iterator.{YieldsList-from_slice}
+use Rattle.std.proofs.lemmas.Iterator.Search.{any_from_yields_List}
+use Rattle.std.proofs.lemmas.List.Recursion.{same_from_clauses}
+use Rattle.text.specs.Bytes.{any_of}
+use Rattle.card.specs.Writing.{long_section}
 use Rattle.card.proofs.writing.any_long.Goals as goal
 
-pub loop-i-init : goal.loop-i-init
-loop-i-init c = (omega arith, refl)
-
-pub returns-then-lengths-i-gt65535 : goal.returns-then-lengths-i-gt65535
-returns-then-lengths-i-gt65535 c =
-    sym (c.loop-i.invariant.1 ∙ long_hit c.args.lengths c.loop-i.i (omega arith) (omega (arith, c.if-lengths-i-gt65535.true)))
-
-pub loop-i-preserved : goal.loop-i-preserved
-loop-i-preserved c =
-    (omega arith, c.loop-i.invariant.1 ∙ long_more c.args.lengths c.loop-i.i (omega arith) (omega (arith, c.if-lengths-i-gt65535.false)))
-
 pub returns : goal.returns
+unfolding any_of long_section
 returns c =
-    sym (c.loop-i.invariant.1 ∙ long_end c.args.lengths c.loop-i.i (omega arith))
+    any_from_yields_List long_section _ _ _ c.any.ensures.ran (YieldsList-from_slice c.args.lengths.now cc) (λ x b q k. search (rules, tests)) ∙
+    same_from_clauses (list_any long_section) (any_of long_section) (λ x b. long_section x || b) refl (λ x xs. refl) (λ x xs. refl) c.args.lengths.now

@@ -4,8 +4,10 @@ use Rattle.card.proofs.writing.put_profile.Goals as goal
 
 pub returns : goal.returns
 unfolding card_texts
-returns c = let a = put_next _ _ _ _ (put_none _) _ _ _ c.put_section-l.ensures.0 c.put_section-l.ensures.1 in
-    let b = put_next _ _ _ _ a _ _ _ c.put_section-v.ensures.0 c.put_section-v.ensures.1 in
-    let d = put_next _ _ _ _ b _ _ _ c.put_section-o.ensures.0 c.put_section-o.ensures.1 in
-    let e = put_next _ _ _ _ d _ _ _ c.put_section.ensures.0 c.put_section.ensures.1 in
-    (e.text, e.next)
+returns c =
+    let l = c.put_section-at.ensures in
+    let v = c.put_section-at-2.ensures in
+    let o = c.put_section-at-3.ensures in
+    let e = c.put_section.ensures in
+    let p = put_next _ _ _ _ (put_next _ _ _ _ (put_next _ _ _ _ (put_next _ _ _ _ (put_none _) _ _ _ l.0 l.1) _ _ _ v.0 v.1) _ _ _ o.0 o.1) _ _ _ e.0 e.1 in
+    rw (← c.texts.view_is) (p.text, p.next)

@@ -1,19 +1,12 @@
-use native.Mathlib.Omega.{arith}
-use mathlib.Core.Path.{refl, sym, ◌∙◌}
-use Rattle.firing.proofs.StageLoops.{in_more, in_not, in_end}
+use Rattle.std.proofs.Common.{◌∙◌, rules, tests, leb}
+use Rattle.std.proofs.lemmas.Iterator.{YieldsList-from_slice}
+use Rattle.std.proofs.lemmas.Iterator.Search.{all_from_yields_List}
+use Rattle.firing.specs.Stage.{region_size, in_regions}
+use Rattle.firing.proofs.StageLoops.{all_listed}
 use Rattle.firing.proofs.stage.in_regions.Goals as goal
 
-pub loop-i-init : goal.loop-i-init
-loop-i-init c = (omega arith, refl)
-
-pub returns-then-lengths-i-gt512 : goal.returns-then-lengths-i-gt512
-returns-then-lengths-i-gt512 c =
-    sym (c.loop-i.invariant.1 ∙ in_not c.args.lengths c.loop-i.i (omega arith) (omega (arith, c.if-lengths-i-gt512.true)))
-
-pub loop-i-preserved : goal.loop-i-preserved
-loop-i-preserved c =
-    (omega arith, c.loop-i.invariant.1 ∙ in_more c.args.lengths c.loop-i.i (omega arith) (omega (arith, c.if-lengths-i-gt512.false)))
-
 pub returns : goal.returns
+unfolding in_regions
 returns c =
-    sym (c.loop-i.invariant.1 ∙ in_end c.args.lengths c.loop-i.i (omega arith))
+    all_from_yields_List (λ n. leb n region_size) _ _ _ c.all.ensures.ran (YieldsList-from_slice c.args.lengths cc) (λ x b q k. search (rules, tests))
+    ∙ all_listed _ _

@@ -1,7 +1,5 @@
+use Rattle.firing.proofs.Going.{region_is}
 use Rattle.firing.proofs.writing.region.Goals as goal
 
-pub returns-then-addition : goal.returns-then-addition
-returns-then-addition c = rw c.if-addition.true
-
 pub returns : goal.returns
-returns c = rw c.if-addition.false
+returns c = region_is _ _ _ c.from.ensures

@@ -1,15 +1,11 @@
-use Rattle.judging.proofs.GroupLines.{first_found, first_none}
-use Rattle.text.proofs.Readers.{found, stopped}
-use native.Mathlib.Omega.{arith}
+use Rattle.judging.proofs.GroupLines.{first_found, first_other, first_none}
 use Rattle.judging.proofs.group.first_word.Goals as goal
 
-pub bounds-s-start : goal.bounds-s-start
-bounds-s-start c =
-    let u = found _ _ _ _ _ _ _ _ c.in-Found.is c.word_at.ensures in omega (arith, u.some, u.high)
+pub returns-then-src-start-ne36 : goal.returns-then-src-start-ne36
+returns-then-src-start-ne36 c = first_other _ _ _ _ _ _ _ c.in-Found.ensures c.if-src-start-ne36.true
 
-pub returns-in-Found : goal.returns-in-Found
-returns-in-Found c =
-    first_found _ _ _ _ _ _ _ (found _ _ _ _ _ _ _ _ c.in-Found.is c.word_at.ensures)
+pub returns-else-src-start-ne36 : goal.returns-else-src-start-ne36
+returns-else-src-start-ne36 c = first_found _ _ _ _ _ _ _ c.in-Found.ensures c.if-src-start-ne36.false
 
 pub returns-in-Stop : goal.returns-in-Stop
-returns-in-Stop c = first_none _ _ _ (stopped _ _ _ _ _ _ c.in-Stop.is c.word_at.ensures).none
+returns-in-Stop c = first_none _ c.args.from.at c.args.from.line c.in-Stop.ensures.none

@@ -1,31 +1,30 @@
-use Rattle.judging.proofs.SetLines.{set_refused, set_as}
-use Rattle.rules.proofs.LineKinds.{line_wrong, line_heading, heading_none, heading_include, heading_set}
-use Rattle.rules.specs.Splitting.{words_of}
-use Rattle.text.specs.Bytes.{bytes, same}
-use mathlib.Core.Path.{◌≡◌, refl, sym, ap, ◌∙◌}
-use Prim.Native.Nat.{ℕ}
 use native.Mathlib.Omega.{arith}
+use mathlib.Core.Path.{refl, sym, ◌∙◌}
+use Rattle.text.specs.Bytes.{bytes}
+use Rattle.text.proofs.Told.{number_some}
+use Rattle.rules.proofs.LineKinds.{line_wrong, line_heading, heading_none, heading_include, heading_set}
+use Rattle.judging.proofs.SetLines.{same_told, set_as}
 use Rattle.judging.proofs.set.judge_heading.Goals as goal
 
-pub returns-then-f-ne0 : goal.returns-then-f-ne0
-returns-then-f-ne0 c =
-    set_refused _ _ _ c.if-f-ne0.true (line_wrong _ _ _ _ c.requires.0.fault c.if-f-ne0.true) c.refused_set.ensures
+pub returns-in-Some : goal.returns-in-Some
+returns-in-Some c = line_wrong _ _ _ _ (rw c.in-Some.is at c.requires.0.fault) (number_some c.in-Some.fault)
 
-pub returns-then-t-eq0 : goal.returns-then-t-eq0
-returns-then-t-eq0 c =
-    set_refused _ 6 _ (λ (z : ◌≡◌ {A = ℕ} 6 0). omega arith) (line_heading _ _ _ _ c.requires.0.fault c.if-f-ne0.false refl ∙ heading_none (words_of c.args.w.now) (sym c.requires.0.count ∙ c.if-t-eq0.true)) c.refused_set-then-t-eq0.ensures
+pub returns-then-line-eq0 : goal.returns-then-line-eq0
+returns-then-line-eq0 c =
+    line_heading _ _ _ _ (rw c.in_default.is at c.requires.0.fault) refl refl ∙ heading_none _ (sym c.args.line.now.counted ∙ c.if-line-eq0.true)
 
-pub returns-then-same : goal.returns-then-same
+pub returns-then-eq : goal.returns-then-eq
 unfolding bytes
-returns-then-same c =
-    set_refused _ 9 _ (λ (z : ◌≡◌ {A = ℕ} 9 0). omega arith) (line_heading _ _ _ _ c.requires.0.fault c.if-f-ne0.false refl ∙ heading_include (words_of c.args.w.now) (omega (arith, c.requires.0.count, c.if-t-eq0.false)) c.requires.1
-    (ap (λ x. same x (bytes "include")) (sym c.word.ensures) ∙ (sym c.same.ensures ∙ c.if-same.true))) c.refused_set-then-same.ensures
-
-pub judge_set-requires : goal.judge_set-requires
-judge_set-requires c =
-    (c.requires.0.placed, c.requires.0.tally refl)
+returns-then-eq c =
+    line_heading _ _ _ _ (rw c.in_default.is at c.requires.0.fault) refl refl
+    ∙ heading_include _ (omega (arith, c.args.line.now.counted, c.if-line-eq0.false)) c.requires.1
+    (same_told _ _ _ _ (bytes "include") c.eq.ensures c.word.ensures c.as_slice.ensures ∙ c.if-eq.true)
 
 pub returns : goal.returns
 unfolding bytes
 returns c =
-    set_as _ _ _ (line_heading _ _ _ _ c.requires.0.fault c.if-f-ne0.false refl ∙ heading_set (words_of c.args.w.now) (omega (arith, c.requires.0.count, c.if-t-eq0.false)) c.requires.1 (ap (λ x. same x (bytes "include")) (sym c.word.ensures) ∙ (sym c.same.ensures ∙ c.if-same.false))) c.judge_set.ensures
+    set_as _ _ _
+    (line_heading _ _ _ _ (rw c.in_default.is at c.requires.0.fault) refl refl
+    ∙ heading_set _ (omega (arith, c.args.line.now.counted, c.if-line-eq0.false)) c.requires.1
+    (same_told _ _ _ _ (bytes "include") c.eq.ensures c.word.ensures c.as_slice.ensures ∙ c.if-eq.false))
+    c.judge_set.ensures

@@ -1,18 +1,48 @@
-use mathlib.Core.Path.{refl}
-use Rattle.names.proofs.Placing.{placing_start, placing_more, placing_end}
+use Rattle.std.proofs.Common.{◌≡◌, length, rules, tests, ap, ◌∙◌, arith, of_calls}
+use Rattle.std.specs.Iterator.Adapters.{enumerate_source, enumerate_count}
+use Rattle.std.specs.Slice.Iter.{split_rest, split_done, split_callee}
+use Rattle.std.proofs.lemmas.Iterator.Consumers.{YieldsList-turn, YieldsList-end, YieldsList-from_enumerate}
+use Rattle.std.proofs.lemmas.Iterator.Splits.{YieldsList-from_slice_split}
+use Rattle.std.proofs.lemmas.List.{length_push}
+use Rattle.profile.proofs.Parts.{comma}
+use Rattle.names.proofs.Fields.{Turn, numbered_turn, numbered_end}
+use Rattle.names.proofs.Placing.{placing_start, placing_low, placing_more, placing_end}
+use Rattle.names.proofs.places.place_fields.Goals.{In-Some}
 use Rattle.names.proofs.places.place_fields.Goals as goal
 
 pub loop-j-init : goal.loop-j-init
-loop-j-init c = placing_start _ _ _ _ c.requires.0 c.requires.1
+loop-j-init c = record { on = search (rules, of_calls); ends = tt; placing = placing_start _ _ _ _ }
 
-pub field_end-e-requires : goal.field_end-e-requires
-field_end-e-requires c = c.loop-j.invariant.high
+-- the field of a turn
+this : (c : In-Some) → (c.in-Some.j ≡ length c.loop-j.yielded) × Turn c.args.text.now (length c.loop-j.yielded) c.in-Some.field.now
+this c =
+    let g = c.into_iter-j-iterator.ensures.into_iter_gives in
+    let z = ap enumerate_source g ∙ c.enumerate-j-items.ensures.source in
+    let s = c.split.ensures in
+    numbered_turn _ _ _ _ (YieldsList-turn (YieldsList-from_enumerate (YieldsList-from_slice_split _ comma c.args.text.now (ap split_rest z ∙ s.rest) (ap split_done z ∙ s.done) (ap split_callee z ∙ s.closure) (λ x b q k. search (rules, tests))) (ap enumerate_count g ∙ c.enumerate-j-items.ensures.count)) c.loop-j.yielded _ c.loop-j.yielded_by _ _ _ c.in-Some.is c.next.ensures.steps)
 
-pub next_start-start-requires : goal.next_start-start-requires
-next_start-start-requires c = c.field_end-e.ensures.high
+pub overflow_add-end : goal.overflow_add-end
+overflow_add-end c = let t = this (goal.at.overflow_add-end c).In-Some in let l = placing_low _ _ _ _ _ _ _ c.loop-j.invariant.placing t.1.few in omega (arith, ap length t.1.field)
+
+pub bounds-bounds-first : goal.bounds-bounds-first
+bounds-bounds-first c = let t = this (goal.at.bounds-bounds-first c).In-Some in omega (arith, t.1.few, c.requires.0)
+
+pub overflow_add-start : goal.overflow_add-start
+overflow_add-start c = let t = this (goal.at.overflow_add-start c).In-Some in let l = placing_low _ _ _ _ _ _ _ c.loop-j.invariant.placing t.1.few in omega (arith, ap length t.1.field)
 
 pub loop-j-preserved : goal.loop-j-preserved
-loop-j-preserved c = placing_more _ _ _ _ c.requires.0 c.requires.1 _ _ _ c.loop-j.invariant c.loop-j-test.true _ c.field_end-e.ensures _ c.next_start-start.ensures _ refl
+loop-j-preserved c =
+    let t = this (goal.at.loop-j-preserved c).In-Some in
+    record {
+      on = search (rules, of_calls);
+      ends = tt;
+      placing = rw t.0 (placing_more _ _ _ _ _ _ _ c.loop-j.invariant.placing t.1.few (omega (arith, c.requires.0)) _ t.1.field _ (length_push _ _));
+    }
 
 pub returns : goal.returns
-returns c = placing_end _ _ _ _ c.requires.0 c.requires.1 _ _ _ c.loop-j.invariant c.loop-j-test.false
+returns c =
+    let g = c.into_iter-j-iterator.ensures.into_iter_gives in
+    let z = ap enumerate_source g ∙ c.enumerate-j-items.ensures.source in
+    let s = c.split.ensures in
+    let t = YieldsList-end (YieldsList-from_enumerate (YieldsList-from_slice_split _ comma c.args.text.now (ap split_rest z ∙ s.rest) (ap split_done z ∙ s.done) (ap split_callee z ∙ s.closure) (λ x b q k. search (rules, tests))) (ap enumerate_count g ∙ c.enumerate-j-items.ensures.count)) c.loop-j.yielded _ c.loop-j.yielded_by _ _ c.in-None.is c.next.ensures.steps in
+    placing_end _ _ _ _ _ _ _ c.loop-j.invariant.placing (numbered_end _ _ t.1)

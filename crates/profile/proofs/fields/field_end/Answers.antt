@@ -1,14 +1,20 @@
-use Rattle.profile.proofs.Splitting.{in_field_start, in_field_more, in_field_comma, in_field_end}
+use mathlib.Core.Path.{sym, ◌∙◌}
+use Rattle.std.proofs.Common.{rules, tests}
+use Rattle.std.proofs.lemmas.Iterator.{YieldsList-from_slice}
+use Rattle.std.proofs.lemmas.Iterator.Search.{position_from_yields_List}
+use Rattle.profile.proofs.Parts.{comma}
+use Rattle.profile.proofs.Splitting.{end_at, end_last}
+use Rattle.std.proofs.lemmas.List.{take_rest}
 use Rattle.profile.proofs.fields.field_end.Goals as goal
 
-pub loop-i-init : goal.loop-i-init
-loop-i-init c = in_field_start _ _ c.requires
+pub returns-in-Some : goal.returns-in-Some
+returns-in-Some c =
+    end_at _ _ c.requires _ (take_rest c.args.text.now c.args.from) _
+    (sym c.in-Some.is ∙ position_from_yields_List comma _ _ c.position.result c.position.ensures.ran
+    (YieldsList-from_slice _ c.iter.ensures.rest) (λ x b q k. search (rules, tests)))
 
-pub returns-then-text-i-eq44 : goal.returns-then-text-i-eq44
-returns-then-text-i-eq44 c = in_field_comma _ _ _ c.loop-i.invariant c.loop-i-test.true c.if-text-i-eq44.true
-
-pub loop-i-preserved : goal.loop-i-preserved
-loop-i-preserved c = in_field_more _ _ _ c.loop-i.invariant c.loop-i-test.true c.if-text-i-eq44.false
-
-pub returns : goal.returns
-returns c = in_field_end _ _ _ c.loop-i.invariant c.loop-i-test.false
+pub returns-in-None : goal.returns-in-None
+returns-in-None c =
+    end_last _ _ c.requires _ (take_rest c.args.text.now c.args.from)
+    (sym c.in-None.is ∙ position_from_yields_List comma _ _ c.position.result c.position.ensures.ran
+    (YieldsList-from_slice _ c.iter.ensures.rest) (λ x b q k. search (rules, tests)))

@@ -1,15 +1,11 @@
-use mathlib.Core.Path.{sym, ◌∙◌}
-use Rattle.profile.proofs.Checking.{clean_start, clean_bad, clean_more, clean_end}
+use mathlib.Core.Bool.{not}
+use Rattle.std.proofs.Common.{rules, tests}
+use Rattle.std.specs.Char.{is_ascii_graphic}
+use Rattle.std.proofs.lemmas.Iterator.{YieldsList-from_slice}
+use Rattle.std.proofs.lemmas.Iterator.Search.{any_from_yields_List}
+use Rattle.profile.proofs.Parts.{any_outside_is}
 use Rattle.profile.proofs.limits.any_outside.Goals as goal
 
-pub loop-i-init : goal.loop-i-init
-loop-i-init c = clean_start _
-
-pub returns-then-outside : goal.returns-then-outside
-returns-then-outside c = clean_bad _ _ c.loop-i.invariant c.loop-i-test.true (sym c.outside.ensures ∙ c.if-outside.true)
-
-pub loop-i-preserved : goal.loop-i-preserved
-loop-i-preserved c = clean_more _ _ c.loop-i.invariant c.loop-i-test.true (sym c.outside.ensures ∙ c.if-outside.false)
-
 pub returns : goal.returns
-returns c = clean_end _ _ c.loop-i.invariant c.loop-i-test.false
+returns c =
+    rw (any_outside_is c.args.text.now) (any_from_yields_List (λ b. not (is_ascii_graphic b)) _ _ _ c.any.ensures.ran (YieldsList-from_slice c.args.text.now cc) (λ x b q k. search (rules, tests)))

@@ -1,12 +1,11 @@
 -- `reading::file::read_file`: the steps so far lead on to the rest.
-use Rattle.text.specs.Reading.{Table}
-use Rattle.reading.proofs.FileReads.{Reads, steps_left, held_by}
+use Prim.Native.Nat.{◌-◌}
+use lib.ListN.{length}
+use Rattle.reading.proofs.FileReads.{Reads}
 use Rattle.reading.proofs.file.read_file.Given as goal
 
-abbrev pub invariant-loop-r : goal.invariant-loop-r
-invariant-loop-r l =
-    Reads l.n l.s (held_by l.initial.r) l.initial.text l.initial.table l.initial.rows l.initial.flags l.bounds l.initial.buf l.initial.r.cursors l.text l.table l.rows l.flags l.scratch l.buf l.r × Table l.t
+abbrev pub invariant-loop : goal.invariant-loop
+invariant-loop l = Reads l.src.bytes.now l.fn.names l.fn.buf l.fn.q l.names l.scratch l.buf l.reading
 
-abbrev pub decreases-loop-r : goal.decreases-loop-r
-decreases-loop-r l =
-    steps_left l.n l.s (held_by l.initial.r) l.initial.text l.initial.table l.initial.rows l.initial.flags l.bounds l.initial.buf l.initial.r.cursors l.r
+abbrev pub decreases-loop : goal.decreases-loop
+decreases-loop l = length l.src.bytes.now - l.reading.at.at

@@ -1,8 +1,5 @@
 use Rattle.rules.proofs.PlainLines.{Lefts}
 use Rattle.rules.proofs.plain.left_end.Given as goal
 
-abbrev pub invariant-loop-j : goal.invariant-loop-j
-invariant-loop-j l = Lefts l.s l.fence l.from l.n l.at l.j
-
-abbrev pub decreases-loop-j : goal.decreases-loop-j
-decreases-loop-j l = l.j
+abbrev pub invariant-loop : goal.invariant-loop
+invariant-loop l = Lefts l.src.bytes.now l.src.fence l.from l.n l.at l.counter

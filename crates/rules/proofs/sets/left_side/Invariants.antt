@@ -1,10 +1,8 @@
-use Prim.Native.Nat.{◌-◌}
+use lib.ListN.{take}
 use Rattle.rules.specs.Splitting.{words_of}
-use Rattle.rules.proofs.Sides.{OnLeft}
+use Rattle.rules.specs.Sides.{LeftHeld}
+use Rattle.rules.proofs.Sides.{lefts}
 use Rattle.rules.proofs.sets.left_side.Given as goal
 
-abbrev pub invariant-loop-i : goal.invariant-loop-i
-invariant-loop-i l = OnLeft (words_of l.w) l.s l.i
-
-abbrev pub decreases-loop-i : goal.decreases-loop-i
-decreases-loop-i l = l.first - l.i
+abbrev pub invariant-loop-j : goal.invariant-loop-j
+invariant-loop-j l = LeftHeld (take l.j (lefts (words_of l.line.text.now))) l.side

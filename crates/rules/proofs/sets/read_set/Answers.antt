@@ -1,13 +1,19 @@
 use native.Mathlib.Omega.{arith}
 use Rattle.rules.specs.Splitting.{words_of}
-use Rattle.rules.proofs.Sides.{before_low, is_set}
+use Rattle.rules.proofs.Sides.{before_low, set_many, set_left, set_right, set_some}
 use Rattle.rules.proofs.sets.read_set.Goals as goal
 
-pub left_side-l-requires : goal.left_side-l-requires
-left_side-l-requires c = (c.requires.0, c.requires.1, omega (arith, c.requires.1, c.requires.2, before_low (words_of c.args.w.now)))
+pub returns-then-line-gt10 : goal.returns-then-line-gt10
+returns-then-line-gt10 c = set_many _ (omega arith)
+
+pub returns-in_err-left : goal.returns-in_err-left
+returns-in_err-left c = rw c.from_residual.ensures (set_left _ c.in_err-left.ensures)
 
 pub overflow_add-first : goal.overflow_add-first
-overflow_add-first c = omega (arith, c.requires.1, c.requires.2, before_low (words_of c.args.w.now))
+overflow_add-first c = omega (arith, before_low (words_of c.args.line.now.text.now))
+
+pub returns-in_err-components : goal.returns-in_err-components
+returns-in_err-components c = rw c.from_residual-in_err-components.ensures (set_right _ c.in_err-components.ensures)
 
 pub returns : goal.returns
-returns c = is_set _ _ _ _ c.left_side-l.ensures c.right_side-r.ensures c.is_good-good.ensures
+returns c = rw c.unwrap_or.ensures (set_some _ _ c.in_ok-left.ensures _ c.in_ok-components.ensures)

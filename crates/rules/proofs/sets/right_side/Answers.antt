@@ -1,19 +1,25 @@
+use Prim.Native.Nat.{◌-◌}
 use native.Mathlib.Omega.{arith}
-use mathlib.Core.Path.{refl}
+use mathlib.Core.Path.{◌≡◌}
 use Rattle.rules.specs.Splitting.{words_of}
-use Rattle.rules.specs.Sets.{nothing_listed}
-use Rattle.rules.proofs.Sides.{right_start, right_more, right_end}
+use Rattle.rules.proofs.Sides.{right_start, right_fails, right_stops, right_goes, rights_whole}
 use Rattle.rules.proofs.sets.right_side.Goals as goal
 
-pub loop-i-init : goal.loop-i-init
-unfolding nothing_listed
-loop-i-init c = right_start _ _ _ refl c.requires.1
+pub loop-j-init : goal.loop-j-init
+loop-j-init c = let e : c.args.from - c.args.from ≡ 0 = omega arith in rw e (right_start _ c.none-components.ensures)
 
-pub word-requires : goal.word-requires
-word-requires c = (c.requires.0, omega arith, omega (arith, c.requires.2))
+pub returns-in_err-component_of : goal.returns-in_err-component_of
+returns-in_err-component_of c =
+    rw c.from_residual.ensures (right_fails _ _ c.requires.0 _ (omega arith) (omega arith) _ c.word.ensures _ c.component_of.ensures c.in_err-component_of.was)
 
-pub loop-i-preserved : goal.loop-i-preserved
-loop-i-preserved c = right_more (words_of c.args.w.now) _ c.loop-i.i c.loop-i.invariant _ _ _ (omega (arith, c.requires.2)) c.word.ensures c.component_of.ensures c.add_component-l.ensures
+pub returns-in_err-components : goal.returns-in_err-components
+returns-in_err-components c =
+    rw c.from_residual-in_err-components.ensures
+    (right_stops _ _ c.requires.0 _ (omega arith) (omega arith) _ c.word.ensures _ c.component_of.ensures _ c.in_ok-component_of.was _ c.loop-j.invariant c.in_err-components.ensures)
+
+pub loop-j-preserved : goal.loop-j-preserved
+loop-j-preserved c =
+    right_goes _ _ c.requires.0 _ (omega arith) (omega arith) _ c.word.ensures _ c.component_of.ensures _ c.in_ok-component_of.was _ c.loop-j.invariant _ c.in_ok-components.ensures.0 c.in_ok-components.ensures.2
 
 pub returns : goal.returns
-returns c = right_end (words_of c.args.w.now) _ c.loop-i.i c.loop-i.invariant (omega (arith, c.requires.2))
+returns c = rw (rights_whole (words_of c.args.line.now.text.now) c.args.from c.requires.0 c.loop-j.j (omega arith)) at c.loop-j.invariant

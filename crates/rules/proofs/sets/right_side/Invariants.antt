@@ -1,10 +1,9 @@
 use Prim.Native.Nat.{◌-◌}
+use lib.ListN.{take}
 use Rattle.rules.specs.Splitting.{words_of}
-use Rattle.rules.proofs.Sides.{OnRight}
+use Rattle.rules.specs.Sides.{RightHeld}
+use Rattle.rules.proofs.Sides.{rights}
 use Rattle.rules.proofs.sets.right_side.Given as goal
 
-abbrev pub invariant-loop-i : goal.invariant-loop-i
-invariant-loop-i l = OnRight (words_of l.w) l.l l.i
-
-abbrev pub decreases-loop-i : goal.decreases-loop-i
-decreases-loop-i l = l.count - l.i
+abbrev pub invariant-loop-j : goal.invariant-loop-j
+invariant-loop-j l = RightHeld (take (l.j - l.from) (rights (words_of l.line.text.now))) l.components

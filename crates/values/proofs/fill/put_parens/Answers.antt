@@ -1,10 +1,11 @@
-use Rattle.values.proofs.Choices.{parens_none, parens_some}
+use Rattle.output.proofs.Stores.{wrote_none, wrote_then}
+use Rattle.values.specs.Filling.{enclosed}
+use Rattle.values.proofs.Choices.{empty_is, parens_prefixed}
 use Rattle.values.proofs.fill.put_parens.Goals as goal
 
-pub returns-then-t-eq0 : goal.returns-then-t-eq0
-returns-then-t-eq0 c =
-    parens_none _ _ _ c.if-t-eq0.true c.requires.1
+pub returns-then-is_empty : goal.returns-then-is_empty
+unfolding enclosed
+returns-then-is_empty c = rw (empty_is _ _ c.if-is_empty.ensures) (wrote_none _ _ c.requires.1)
 
 pub returns : goal.returns
-returns c =
-    parens_some _ _ _ c.if-t-eq0.false c.requires.0 _ _ _ _ _ _ c.put_byte-a.ensures c.put_text-e.ensures c.put_byte.ensures
+returns c = rw (parens_prefixed _ (empty_is _ _ c.if-is_empty.ensures)) (wrote_then _ _ _ _ _ _ _ _ c.requires.0 c.put_prefixed-end.ensures c.put_byte.ensures)

@@ -1,8 +1,12 @@
-use Rattle.values.proofs.Choices.{prefix_none, prefix_some}
+use Rattle.output.proofs.Stores.{wrote_none, wrote_then}
+use Rattle.values.specs.Filling.{prefixed}
+use Rattle.values.proofs.Choices.{empty_is}
 use Rattle.values.proofs.fill.put_prefixed.Goals as goal
 
-pub returns-then-t-eq0 : goal.returns-then-t-eq0
-returns-then-t-eq0 c = prefix_none _ _ _ _ c.if-t-eq0.true c.requires.1
+pub returns-then-is_empty : goal.returns-then-is_empty
+unfolding prefixed
+returns-then-is_empty c = rw (empty_is _ _ c.if-is_empty.ensures) (wrote_none _ _ c.requires.1)
 
 pub returns : goal.returns
-returns c = prefix_some _ _ _ c.if-t-eq0.false c.requires.0 _ _ _ _ _ c.put_byte-a.ensures c.put_text.ensures
+unfolding prefixed
+returns c = rw (empty_is _ _ c.if-is_empty.ensures) (wrote_then _ _ _ _ _ _ _ _ c.requires.0 c.put_byte-start.ensures c.put_text.ensures)

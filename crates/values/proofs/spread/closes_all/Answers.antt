@@ -1,23 +1,29 @@
-use native.Mathlib.Omega.{arith}
+use mathlib.Core.Path.{◌≡◌, refl, sym, ap, ◌∙◌}
+use mathlib.Core.Bool.{true, false}
+use mathlib.Core.List.{[], ◌∷◌, ◌++◌}
+use Rattle.std.specs.Prelude.{Some, None}
+use Rattle.std.proofs.lemmas.Slice.Eq.{strip_prefix_is}
+use Rattle.std.proofs.lemmas.Bool.Decides.{Decides-eqb}
 use Rattle.text.specs.Bytes.{bytes}
-use Rattle.values.proofs.Keeping.{closes_other, closes_sign}
+use Rattle.values.specs.Cutting.{closes_all}
+use Rattle.values.proofs.Choices.{empty_is}
+use Rattle.values.proofs.Keeping.{closes_not, closes_behind}
 use Rattle.values.proofs.spread.closes_all.Goals as goal
 
-pub returns-then-t-i-ne97 : goal.returns-then-t-i-ne97
+pub returns-in-None : goal.returns-in-None
 unfolding bytes
-returns-then-t-i-ne97 c =
-    closes_other c.args.t.now c.args.i 1 (omega arith) c.if-t-i-ne97.true
+returns-in-None c = closes_not _ (strip_prefix_is Decides-eqb c.args.t.now (58 ∷ 97 ∷ 108 ∷ 108 ∷ []) None c.in-None.ensures.cases)
 
-pub returns-then-t-i-ne108 : goal.returns-then-t-i-ne108
+pub returns-then-is_empty : goal.returns-then-is_empty
 unfolding bytes
-returns-then-t-i-ne108 c =
-    closes_other c.args.t.now c.args.i 2 (omega arith) c.if-t-i-ne108.true
+returns-then-is_empty c =
+    let w : c.args.t.now ≡ bytes ":all" ++ c.in-Some.rest.now =
+    strip_prefix_is Decides-eqb c.args.t.now (58 ∷ 97 ∷ 108 ∷ 108 ∷ []) (Some c.in-Some.rest) c.in-Some.ensures.cases in
+    c.if-is_empty.true ∙ sym (ap closes_all w ∙ (closes_behind c.in-Some.rest.now ∙ rw (empty_is c.in-Some.rest.now true c.if-is_empty.ensures) refl))
 
-pub returns-then-t-i-ne108-2 : goal.returns-then-t-i-ne108-2
+pub returns-else-is_empty : goal.returns-else-is_empty
 unfolding bytes
-returns-then-t-i-ne108-2 c =
-    closes_other c.args.t.now c.args.i 3 (omega arith) c.if-t-i-ne108-2.true
-
-pub returns : goal.returns
-returns c =
-    closes_sign c.args.t.now c.args.i c.requires.0 c.requires.1 c.if-t-i-ne97.false c.if-t-i-ne108.false c.if-t-i-ne108-2.false _ c.is_sign.ensures
+returns-else-is_empty c =
+    let w : c.args.t.now ≡ bytes ":all" ++ c.in-Some.rest.now =
+    strip_prefix_is Decides-eqb c.args.t.now (58 ∷ 97 ∷ 108 ∷ 108 ∷ []) (Some c.in-Some.rest) c.in-Some.ensures.cases in
+    c.is_signed.ensures ∙ sym (ap closes_all w ∙ (closes_behind c.in-Some.rest.now ∙ rw (empty_is c.in-Some.rest.now false c.if-is_empty.ensures) refl))

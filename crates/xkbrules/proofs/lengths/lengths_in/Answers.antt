@@ -9,7 +9,7 @@ pub loop-i-init : goal.loop-i-init
 loop-i-init c = (omega arith, refl, read_none c.args.sheet.now (replicate 10 0))
 
 pub loop-i-preserved : goal.loop-i-preserved
-loop-i-preserved c = (omega arith, search rules, read_more c.args.sheet.now _ _ _ c.loop-i.invariant.1 c.loop-i-test.true c.loop-i.invariant.2 c.number_at.ensures)
+loop-i-preserved c = (omega arith, search rules, read_more c.args.sheet.now _ _ _ c.loop-i.invariant.1 (omega arith) c.loop-i.invariant.2 c.number_at.ensures)
 
 pub returns : goal.returns
 returns c = read_all c.args.sheet.now _ _ c.loop-i.invariant.1 c.loop-i.invariant.0 c.loop-i-test.false c.loop-i.invariant.2

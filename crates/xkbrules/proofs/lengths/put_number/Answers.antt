@@ -1,18 +1,16 @@
+use Prim.Native.Nat.{◌+◌, ◌-◌}
 use native.Mathlib.Omega.{arith}
-use lib.ListN.{length-set}
+use mathlib.Core.Path.{◌≡◌, ap, ◌∙◌}
+use mathlib.Core.List.{◌++◌}
+use lib.ListN.{take, drop}
+use lib.Seq.{drop-drop}
 use Rattle.xkbrules.specs.Sheet.{little_endian}
-use Rattle.xkbrules.proofs.OneByOne.{four_stored}
 use Rattle.xkbrules.proofs.lengths.put_number.Goals as goal
-
-pub bounds-sheet-at-2 : goal.bounds-sheet-at-2
-bounds-sheet-at-2 c = simp length-set (omega arith)
-
-pub bounds-sheet-at-3 : goal.bounds-sheet-at-3
-bounds-sheet-at-3 c = simp length-set (omega arith)
-
-pub bounds-sheet-at-4 : goal.bounds-sheet-at-4
-bounds-sheet-at-4 c = simp length-set (omega arith)
 
 pub returns : goal.returns
 unfolding little_endian
-returns c = four_stored _ _ _ _ _ _ c.requires
+returns c =
+    let s = c.args.sheet.now in
+    let at = c.args.at in
+    let n : at + (at + 4 - at) ≡ at + 4 = omega arith in
+    ap (λ l. take at s ++ l) (λ i. (c.copy_from_slice.ensures.after ∙ c.to_le_bytes.ensures) i ++ (drop-drop (at + 4 - at) at s ∙ ap (λ m. drop m s) n) i)

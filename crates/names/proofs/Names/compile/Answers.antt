@@ -1,0 +1,23 @@
+use Rattle.std.proofs.Common.{refl, arith}
+use Rattle.profile.specs.Profile.{profile_of, layout_count}
+use Rattle.names.proofs.Fields.{some_fields}
+use Rattle.names.proofs.Placing.{short_texts, few_fields, length_four, values_of}
+use Rattle.names.proofs.Asked.{ready_profile}
+use Rattle.names.proofs.Names.compile.Goals as goal
+
+pub invariant_of-self : goal.invariant_of-self
+invariant_of-self c =
+    let x = c.args.texts.now in
+    let s = short_texts x c.requires in
+    let u = c.compile.ensures in
+    record {
+      few = omega (arith, u.few);
+      room = omega (arith, u.used, length_four x, s.model, s.layouts, s.variants, s.options);
+      limit = omega arith;
+      counted = (omega (arith, some_fields x.layouts, c.layout_count-self.ensures), omega (arith, (few_fields x c.requires).0, c.layout_count-self.ensures));
+      placed = rw u.text (values_of x c.requires _ c.place_values-bounds.ensures).placed;
+    }
+
+pub returns : goal.returns
+unfolding layout_count profile_of
+returns c = ready_profile _ _ c.requires c.place_values-bounds.ensures c.compile.ensures refl c.layout_count-self.ensures
