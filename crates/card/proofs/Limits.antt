@@ -117,14 +117,6 @@ first_numbered (r ∷ rs) ts p h e =
     let q : r ≡ p = cc in
     is_numbered p (rw (← q) (and_both (numbered r) (all_of numbered rs) h).0)
 
-first_low : (rs : List Refusal) → all_of numbered rs ≡ true → ((first_refusal rs).number ≤ 16) × ((first_refusal rs).place ≤ 4)
-unfolding all_of first_refusal
-first_low [] h = (omega arith, omega arith)
-first_low (r ∷ rs) h = let v = is_numbered r (and_both (numbered r) (all_of numbered rs) h).0 in (v.most, v.place)
-
-pub refusal_low : (t : Texts) (p : Refusal) → p ≡ first_refusal (profile_refusals t) → (p.number ≤ 16) × (p.place ≤ 4)
-refusal_low t p e = rw e (first_low (profile_refusals t) (profile_numbered t))
-
 -- the texts of given lengths at the start of a text
 
 pub lengths_in_lem : (x : Text) (ns : List ℕ) → sum ns ≤ length x → map length (texts_in x ns) ≡ ns

@@ -7,4 +7,3 @@ pub mod Going
 pub mod Placing
 pub mod Beginnings
 pub mod ValueFires
-pub mod Pairs

@@ -79,20 +79,15 @@ module _ (p : Profile) (s : Text) (from n : ℕ) (d₀ : Text) (q₀ : Cursors) 
       pub word_fits : length (part s a e) ≤ 256
       word_fits = word_room (part s a e ∷ left s e) 0 word_short (omega arith)
 
-      pub words_few : length (left s from) ≤ 5 → j < 5
-      words_few h = omega (arith, v.count, ap length w.text)
-
-      pub words_more : length cs ≡ 5 → length (left s from) ≤ 5 → (d' : Text) (q' : Cursors) → FiredOne d d' q q' (get_or cs j 0) (expanded p k (part s a e)) →
-          WordsGoing d' q' e l (j + 1)
-      words_more z h d' q' g =
+      pub words_more : j < length cs → (d' : Text) (q' : Cursors) → FiredOne d d' q q' (get_or cs j 0) (expanded p k (part s a e)) → WordsGoing d' q' e l (j + 1)
+      words_more h d' q' g =
           record {
             passing = passing_word s from n i m v.passing a e l f w;
             count = omega (arith, v.count, ap length w.text);
             short = short_rest (part s a e) (left s e) word_short;
             going = λ x.
-                let c : j < length cs = omega (arith, words_few h) in
                 let y : rule_fires p x k (drop j cs) (left s i) ≡ fired x k (get_or cs j 0) (expanded p k (part s a e)) ++ rule_fires p x k (drop (j + 1) cs) (left s e) =
-                rw (drop_get cs 0 j c, w.text, fires_cons) in
+                rw (drop_get cs 0 j h, w.text, fires_cons) in
                 going_more d₀ q₀ _ d q _ _ d' q' (rw y at (v.going x)) (g.bytes x k) (g.places x k);
           }
 
@@ -125,8 +120,8 @@ module _ (s : Text) (from n : ℕ) where
     pub behind_short : ShortWords (left s from) → ShortWords (left s i)
     behind_short h = rw v.text (any_drop too_long 1 (left s from) h)
 
-    pub behind_right : (c : ℕ) → RightWords (drop 1 (left s from)) c → RightWords (left s i) c
-    behind_right c h = rw v.text h
+    pub behind_right : (cs : List ℕ) → RightWords (drop 1 (left s from)) cs → RightWords (left s i) cs
+    behind_right cs h = rw v.text h
 
     pub behind_rule : (p : Profile) (cs : List ℕ) (d d' : Text) (q q' : Cursors) (k : ℕ) → FiredRule p d d' q q' k cs (left s i) →
         FiredRule p d d' q q' k cs (drop 1 (left s from))

@@ -1,4 +1,3 @@
 pub mod Writing
 pub mod Stage
 pub mod Rule
-pub mod Line

@@ -1,5 +1,5 @@
 -- What it takes to fire the right words of a rule.
-use Rattle.std.specs.Prelude.{ℕ, ◌*◌, ◌≤◌, ◌<◌, ◌≡◌, length}
+use Rattle.std.specs.Prelude.{ℕ, ◌*◌, ◌≤◌, ◌<◌, ◌≡◌, List, length}
 use Rattle.text.specs.Limits.{longest_word}
 use Rattle.text.specs.Bytes.{Text, Words}
 use Rattle.output.specs.Store.{farthest}
@@ -17,8 +17,7 @@ pub record Fires (n k : ℕ) (x d : Text) (q : Cursors) : Type 0 where
   pub buf : length d ≤ farthest
   pub low : Low q.at
 
--- the right words of a rule: there are c of them, and none is too long
-pub record RightWords (ws : Words) (c : ℕ) : Type 0 where
-  pub all : length ws ≡ c
-  pub few : c ≤ 5
+-- the right words of a rule: there are as many as components, and none is too long
+pub record RightWords (ws : Words) (cs : List ℕ) : Type 0 where
+  pub all : length ws ≡ length cs
   pub short : ShortWords ws

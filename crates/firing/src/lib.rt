@@ -1,7 +1,6 @@
 // The values of rules, fired into ten regions of one lent buffer.
 #![tactic(auto)]
 
-pub mod line;
 pub mod rule;
 pub mod stage;
 pub mod writing;
@@ -23,13 +22,4 @@ pub struct Cursors {
 pub struct Sums {
     pub at: [u32; 10],
     pub total: u32,
-}
-
-// The right side as `line::fire_line` takes it, with the layout count n.
-#[derive(Clone, Copy)]
-pub struct RightSide {
-    pub count: usize,
-    pub components: [usize; 5],
-    pub n: usize,
-    pub k: usize,
 }

@@ -15,11 +15,10 @@ use text::source::{Next, Source};
 use values::Values;
 use values::fill::has_percent;
 
-// The right side of a set's rules at a layout: the components, which are `count`, and the matched layout k.
+// The right side of a set's rules at a layout: the components, and the matched layout k.
 #[derive(Clone, Copy)]
-pub struct RightSide {
-    pub count: usize,
-    pub components: [usize; 5],
+pub struct RightSide<'a> {
+    pub components: &'a [usize],
     pub k: usize,
 }
 
@@ -69,14 +68,15 @@ fn fire_words(
     buf: &mut [u8],
     q: Cursors,
 ) -> Cursors
-    requires { Within src.now.bytes.now from.at from.line × RightWords (left src.now.bytes.now from.at) right.now.count
+    requires { Within src.now.bytes.now from.at from.line × RightWords (left src.now.bytes.now from.at) right.now.components.now
         × Fires values.now.n right.now.k scratch.old buf.old q }
     ensures { FiredRule (as_profile values.now) buf.old buf.new q result right.now.k
-        right.now.components (left src.now.bytes.now from.at) × (length scratch.new ≡ length scratch.old) }
+        right.now.components.now (left src.now.bytes.now from.at) × (length scratch.new ≡ length scratch.old) }
 {
     let mut next = q;
     let mut here = from;
-    for component in &right.components[..right.count] {
+    let components = right.components;
+    for component in components {
         match src.word_at(here) {
             Next::Found {
                 start,
@@ -88,7 +88,7 @@ fn fire_words(
                 next = fire_value(word, *component, right.k, values, scratch, buf, next);
                 here = Spot { at: end, line };
             }
-            // not met, as there are `count` words
+            // not met: there are as many words
             Next::Stop { .. } => return next,
         }
     }
@@ -105,10 +105,10 @@ pub fn fire_line(
     buf: &mut [u8],
     q: Cursors,
 ) -> Cursors
-    requires { Within src.now.bytes.now from.at from.line × RightWords (drop 1 (left src.now.bytes.now from.at)) right.now.count
+    requires { Within src.now.bytes.now from.at from.line × RightWords (drop 1 (left src.now.bytes.now from.at)) right.now.components.now
         × Fires values.now.n right.now.k scratch.old buf.old q }
     ensures { FiredRule (as_profile values.now) buf.old buf.new q result right.now.k
-        right.now.components (drop 1 (left src.now.bytes.now from.at)) × (length scratch.new ≡ length scratch.old) }
+        right.now.components.now (drop 1 (left src.now.bytes.now from.at)) × (length scratch.new ≡ length scratch.old) }
 {
     let behind = behind_first(src, from);
     fire_words(src, behind, right, values, scratch, buf, q)

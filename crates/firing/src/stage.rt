@@ -3,7 +3,7 @@ ghost use Rattle.std.specs.Prelude.{◌≡◌, true, ◌≤◌, length};
 ghost use Rattle.answers.specs.Answer.{sum, accepted, buffer_after};
 ghost use Rattle.firing.specs.Stage.{stage_size, in_regions, texts_at, between, Reached};
 
-use output::{copy, wide};
+use output::store;
 
 // Where the regions start, each of 512 bytes.
 pub const REGIONS: [u32; 10] = [0, 512, 1024, 1536, 2048, 2560, 3072, 3584, 4096, 4608];
@@ -34,9 +34,9 @@ pub fn copy_texts(stage: &[u8], lengths: [u32; 10], buf: &mut [u8])
 {
     let mut at: usize = 0;
     for (i, n) in lengths.iter().enumerate() {
-        let n = wide(*n);
+        let n = *n as usize;
         let start = 512 * i;
-        copy(stage, start, start + n, buf, at);
+        store(&stage[start..start + n], buf, at);
         at += n;
     }
 }

@@ -4,10 +4,6 @@
 ghost use Rattle.std.specs.Prelude.{◌≡◌, ◌-◌, ◌≤◌, length};
 ghost use Rattle.output.specs.Store.{stored, past as past_of, Wrote};
 
-pub mod parts;
-
-pub use parts::{copy, put_part, wide};
-
 // Positions end here, so that no sum can wrap.
 const FARTHEST: usize = 1058817;
 

@@ -2,5 +2,4 @@ pub mod Profile
 pub mod Refusals
 pub mod Options
 pub mod Splitting
-pub mod Places
 pub mod Spans

@@ -1,5 +1,5 @@
--- Where a profile's values stand in one text, as 65 spans: number 0 is the model, 1 to 32 are the layouts, 33 to 64 the variants. Document 01,
--- "The profile".
+-- Where a profile's values stand in one text, as 65 spans: number 0 is the model, 1 to 32 are the layouts, 33 to 64
+-- the variants. Document 01, "The profile".
 use Rattle.std.specs.Prelude.{ℕ, zero, suc, ◌+◌, ◌-◌, ◌≤◌, ◌<◌, ◌≡◌, List, [], ◌∷◌, false, length, get_or}
 use Rattle.text.specs.declared.Span.{Span}
 use Rattle.text.specs.Limits.{longest_field}

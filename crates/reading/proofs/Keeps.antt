@@ -1,14 +1,11 @@
 -- Places kept, and the rules at them fired: one law for each way through the loops.
 use Prim.Native.Nat.{ℕ, suc, ◌+◌, ◌-◌, ◌≤◌, ◌<◌}
 use native.Mathlib.Omega.{arith}
-use mathlib.Core.Path.{◌≡◌, refl, sym, ap, ◌∙◌}
-use mathlib.Core.List.{List, [], ◌∷◌, ◌++◌}
-use mathlib.Core.Bool.{Bool, true, false, cond}
-use lib.ListN.{length, get_or, take, drop, set, length-set, length-drop}
-use lib.Seq.{get_or-set_same, get_or-set_other}
-use lib.Dec.{eqb}
-use borrow.Author.Tests.{eqb-true, eqb-false}
-use Rattle.text.specs.Bytes.{Text, Words, concat_map}
+use mathlib.Core.Path.{◌≡◌, refl, ap, ◌∙◌}
+use mathlib.Core.List.{List, [], ◌++◌}
+use mathlib.Core.Bool.{true, false, cond}
+use lib.ListN.{length, get_or, drop, length-drop}
+use Rattle.text.specs.Bytes.{Text, concat_map}
 use Rattle.text.specs.Reading.{left}
 use Rattle.text.specs.Words.{too_long}
 use Rattle.text.proofs.Lists.{any_drop}
@@ -24,7 +21,7 @@ use Rattle.firing.proofs.Going.{Going, going_start, going_more, going_end}
 use Rattle.rules.specs.Held.{heading_by}
 use Rattle.reading.specs.declared.OpenSet.{OpenSet}
 use Rattle.reading.specs.Owed.{layouts_in}
-use Rattle.reading.specs.Keeping.{PlaceAt, most_places, Noted, place_fires, KeptFired}
+use Rattle.reading.specs.Keeping.{PlaceAt, most_places, place_fires, KeptFired}
 
 -- a place kept
 
@@ -33,41 +30,6 @@ module _ (first m i : ℕ) (ps : List ℕ) where
     pub at : (j : ℕ) → first ≤ j → j < k → get_or ps' j 0 ≡ cond (is_in j m) i (get_or ps j 0)
     pub above : (j : ℕ) → k ≤ j → get_or ps' j 0 ≡ get_or ps j 0
     pub size : length ps' ≡ most_places
-
-  pub noted_start : length ps ≡ most_places → NotedTo first ps
-  noted_start e = record { at = λ j a l. absurd (omega arith); above = λ j a. refl; size = e }
-
-  module _ (k : ℕ) (ps' : List ℕ) (v : NotedTo k ps') where
-    pub noted_hit : k < most_places → is_in k m ≡ true → NotedTo (k + 1) (set ps' k i)
-    noted_hit l e =
-        record {
-          at = λ j a h. go j a h (eqb k j) refl;
-          above = λ j a. get_or-set_other ps' k j i 0 (λ q. omega arith) ∙ v.above j (omega arith);
-          size = length-set ps' k i ∙ v.size;
-        }
-      where
-        go : (j : ℕ) → first ≤ j → j < k + 1 → (t : Bool) → eqb k j ≡ t → get_or (set ps' k i) j 0 ≡ cond (is_in j m) i (get_or ps j 0)
-        go j a h true q = rw (← eqb-true k j q, e) (get_or-set_same ps' k i 0 (omega (arith, v.size)))
-        go j a h false q = get_or-set_other ps' k j i 0 (λ x. eqb-false k j q (sym x)) ∙ v.at j a (omega (arith, eqb-false k j q))
-
-    pub noted_miss : is_in k m ≡ false → NotedTo (k + 1) ps'
-    noted_miss e = record { at = λ j a h. go j a h (eqb k j) refl; above = λ j a. v.above j (omega arith); size = v.size }
-      where
-        go : (j : ℕ) → first ≤ j → j < k + 1 → (t : Bool) → eqb k j ≡ t → get_or ps' j 0 ≡ cond (is_in j m) i (get_or ps j 0)
-        go j a h true q = rw (← eqb-true k j q, e) (v.above k (omega arith))
-        go j a h false q = v.at j a (omega (arith, eqb-false k j q))
-
-    pub noted_end : (count : ℕ) → first + count ≤ k → Noted first count m i ps ps'
-    noted_end count h = record { at = λ j a l. v.at j a (omega arith); size = v.size }
-
--- the right words of a rule with as many words as its heading asks
-
-first_components : (p : Profile) (l k : ℕ) (cs : List ℕ) (ws : Words) → rule_fires p l k cs ws ≡ rule_fires p l k (take (length ws) cs) ws
-unfolding rule_fires
-first_components p l k [] [] = refl
-first_components p l k [] (w ∷ ws) = refl
-first_components p l k (c ∷ cs) [] = refl
-first_components p l k (c ∷ cs) (w ∷ ws) = rw (first_components p l k cs ws) refl
 
 range_more : (f : ℕ → List Firing) (j k : ℕ) → concat_map f (up_from (suc j) k) ≡ f k ++ concat_map f (up_from j (k + 1))
 unfolding concat_map up_from
@@ -119,36 +81,27 @@ module _ (p : Profile) (o : OpenSet) (s : Text) (ps : List ℕ) (d₀ : Text) (q
                 rw (next l, y) at (v.going l);
           }
 
-      -- the set's components are the first n of cs
-      pub kept_more : (n : ℕ) (cs : List ℕ) → (heading_by o.set).components ≡ take n cs → length (heading_by o.set).components ≡ n → (d' : Text) (q' : Cursors) →
-          is_in k o.wanted ≡ false → PlaceAt o.set s (get_or ps k 0) → FiredRule p d d' q q' k cs (drop 1 (left s (get_or ps k 0))) → KeptGoing (k + 1) d' q'
+      -- cs are the set's components
+      pub kept_more : (cs : List ℕ) → cs ≡ (heading_by o.set).components → (d' : Text) (q' : Cursors) → is_in k o.wanted ≡ false →
+          FiredRule p d d' q q' k cs (drop 1 (left s (get_or ps k 0))) → KeptGoing (k + 1) d' q'
       unfolding place_fires
-      kept_more n cs is size d' q' e w f =
+      kept_more cs is d' q' e f =
           record {
             low = omega (arith, v.low);
             high = omega arith;
             going = λ l.
-                let y : place_fires p o s ps l k ≡ rule_fires p (l k) k (heading_by o.set).components (drop 1 (left s (get_or ps k 0))) = rw e refl in
+                let y : place_fires p o s ps l k ≡ rule_fires p (l k) k cs (drop 1 (left s (get_or ps k 0))) = rw (e, is) refl in
                 let z : Going d₀ q₀ (concat_map (place_fires p o s ps l) (layouts_in o)) d q
-                (rule_fires p (l k) k (heading_by o.set).components (drop 1 (left s (get_or ps k 0))) ++ concat_map (place_fires p o s ps l) (up_from (o.first + o.count - (k + 1)) (k + 1))) =
+                (rule_fires p (l k) k cs (drop 1 (left s (get_or ps k 0))) ++ concat_map (place_fires p o s ps l) (up_from (o.first + o.count - (k + 1)) (k + 1))) =
                 rw (next l, y) at (v.going l) in
-                going_more d₀ q₀ _ d q _ _ d' q' z (f.bytes (l k) ∙ ap (run_buf d q) (told (l k))) (f.places (l k) ∙ ap (run_cur q) (told (l k)));
+                going_more d₀ q₀ _ d q _ _ d' q' z (f.bytes (l k)) (f.places (l k));
           }
-        where
-          count : length (drop 1 (left s (get_or ps k 0))) ≡ n
-          count = length-drop 1 (left s (get_or ps k 0)) ∙ omega (arith, w.count, size)
-
-          told : (l : ℕ) → rule_fires p l k cs (drop 1 (left s (get_or ps k 0))) ≡ rule_fires p l k (heading_by o.set).components (drop 1 (left s (get_or ps k 0)))
-          told l =
-              first_components p l k cs (drop 1 (left s (get_or ps k 0)))
-              ∙ ap (λ (y : List ℕ). rule_fires p l k y (drop 1 (left s (get_or ps k 0)))) (ap (λ (i : ℕ). take i cs) count ∙ sym is)
 
 -- the right words at a place
-pub place_words : (h : SetHeading) (s : Text) (place n : ℕ) → length (heading_by h).components ≡ n → n ≤ 5 → PlaceAt h s place → RightWords (drop 1 (left s place)) n
-place_words h s place n size few w =
+pub place_words : (h : SetHeading) (s : Text) (place : ℕ) (cs : List ℕ) → cs ≡ (heading_by h).components → PlaceAt h s place → RightWords (drop 1 (left s place)) cs
+place_words h s place cs is w =
     record {
-      all = length-drop 1 (left s place) ∙ omega (arith, w.count, size);
-      few = few;
+      all = rw is (length-drop 1 (left s place) ∙ omega (arith, w.count));
       short = any_drop too_long 1 (left s place) w.short;
     }
 

@@ -44,8 +44,7 @@ pub fn fire_kept(
             continue;
         }
         let right = RightSide {
-            count: o.set.components.count,
-            components: o.set.components.items,
+            components: o.set.components.items(),
             k,
         };
         let from = Spot {

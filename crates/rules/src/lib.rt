@@ -5,7 +5,6 @@ pub mod headings;
 pub mod judge;
 pub mod lines;
 pub mod listing;
-pub mod older;
 pub mod percent;
 pub mod placed;
 pub mod plain;

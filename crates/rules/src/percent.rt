@@ -3,7 +3,6 @@ ghost use Rattle.std.specs.Prelude.{◌≡◌, drop};
 ghost use Rattle.rules.specs.Percent.{which_of, variable_of, which_length, variable_length, in_parens, piece_after, piece_length, PlainTo};
 ghost use Rattle.rules.specs.Percent.{bad_which, bad_variable, bad_piece, malformed};
 
-pub use super::older::{byte_at, piece_length};
 use super::{Piece, Variable, Which};
 
 impl Which {
@@ -180,6 +179,7 @@ pub fn is_malformed(w: &[u8], indexed: bool) -> bool
     ensures { result ≡ malformed indexed w.now }
 {
     let mut i = skip_plain(w);
+    // a step is as long as the item
     while i < w.len() {
         if w[i] != b'%' {
             i += 1;

@@ -1,5 +1,5 @@
 -- What the kinds of bytes mean for the marks.
-use Prim.Native.Nat.{ℕ, ◌≤◌, ◌<◌}
+use Prim.Native.Nat.{ℕ, ◌≤◌}
 use native.Mathlib.Omega.{arith}
 use mathlib.Core.Path.{◌≡◌, refl, sym, ◌∙◌, subst}
 use mathlib.Core.Logic.{◌⊎◌, inl, inr, ⊎_elim}
@@ -13,9 +13,8 @@ use Rattle.text.specs.Words.{bad_byte}
 use Rattle.text.specs.declared.kinds.Kind.{Kind}
 use Rattle.text.specs.declared.kinds.Kind.TheVariants as kind
 use Rattle.text.specs.Kinds.{kind_of, rank, blank, begins_kind, begins_plain, ends_plain}
-use Rattle.text.specs.Reading.{wordly, in_word, kind_of as kind_number}
+use Rattle.text.specs.Reading.{wordly, in_word}
 use Rattle.text.proofs.Lists.{no, or_cases}
-use Rattle.text.proofs.Olds.{slash_number, bad_number}
 
 pub differ : (b k m : ℕ) → eqb k m ≡ false → b ≡ k → b ≡ m → ⊥
 differ b k m h e f = eqb-false k m h (sym e ∙ f)
@@ -215,9 +214,15 @@ return_class b c d p q = rw (p, q) refl
 
 -- the ways through the tests of the byte b at which a plain word may begin, where c stands behind it
 module _ (b c : ℕ) where
+  pub begins_yes : kind_of b ≡ kind.Plain → true ≡ begins_plain b c
+  begins_yes h = sym (plain_kind b c h)
+
   pub begins_slash : b ≡ 47 → not (eqb c 47) ≡ begins_plain b c
   unfolding begins_plain kind_of bad_byte
   begins_slash e = rw e refl
+
+  pub begins_at_slash : (d : ℕ) → b ≡ 47 → c ≡ d → not (eqb d 47) ≡ begins_plain b c
+  begins_at_slash d e h = rw (sym h) (begins_slash e)
 
   pub begins_percent : (kind_of b ≡ kind.Plain → ⊥) → (b ≡ 47 → ⊥) → eqb b 37 ≡ begins_plain b c
   unfolding begins_plain
@@ -240,26 +245,9 @@ module _ (b c : ℕ) where
     unfolding ends_plain ends_line
     ends_return e = rw h (rw e refl)
 
+    pub ends_at_return : (d : ℕ) → b ≡ 13 → c ≡ d → eqb d 10 ≡ ends_plain b c
+    ends_at_return d e k = rw (sym k) (ends_return e)
+
     pub ends_feed_only : (b ≡ 13 → ⊥) → eqb b 10 ≡ ends_plain b c
     unfolding ends_plain
     ends_feed_only n = rw h (sym (ends_feed b c (λ e. absurd (n e))))
-
--- for the crates that know the kinds by numbers still
-
-pub kind_zero : (b c d : ℕ) → kind_number b ≡ 0 → Begins b c d × (bad_byte b ≡ false)
-kind_zero b c d h = plain_begins b c d (go (kind_of b) refl (means b))
-  where
-    go : (k : Kind) → kind_of b ≡ k → Means b k → begins_plain b c ≡ true
-    go kind.Plain e m = plain_kind b c e
-    go kind.Slash e m = absurd (slash_number b m h)
-    go kind.Percent e m = percent_kind b c e
-    go kind.Other e m = absurd (bad_number b m h)
-
-pub plain_of : (b : ℕ) → kind_number b ≡ 0 → (b ≡ 37 → ⊥) → kind_of b ≡ kind.Plain
-plain_of b h n = go (kind_of b) refl (means b)
-  where
-    go : (k : Kind) → kind_of b ≡ k → Means b k → k ≡ kind.Plain
-    go kind.Plain e m = refl
-    go kind.Slash e m = absurd (slash_number b m h)
-    go kind.Percent e m = absurd (n m)
-    go kind.Other e m = absurd (bad_number b m h)

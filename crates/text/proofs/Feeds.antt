@@ -21,10 +21,9 @@ use Rattle.text.specs.declared.Place.TheVariants.{Start, Space, JoinStart, JoinS
 use Rattle.text.specs.Bytes.{first}
 use Rattle.text.specs.Marks.{ends_line, Mark, gap, join, at_feed, at_other, marks}
 use Rattle.text.specs.Lines.{words, heading, lines_of}
-use Rattle.text.specs.Reading.{slash_before, feed_end as feed_number}
+use Rattle.text.specs.Reading.{slash_before}
 use Rattle.text.specs.Sources.{feed_end, join_end}
 use Rattle.text.proofs.Lists.{no, and_both}
-use Rattle.text.proofs.Olds.{feed_of, feed_not}
 use Rattle.text.proofs.Positions.{first_drop, marks_at, step_other, step_feed, lines_gap, lines_join}
 use Rattle.text.proofs.ByteKinds.{ends_cases, differ, return_class}
 
@@ -75,13 +74,6 @@ feed_some s i z h =
     let e = w.0 in
     record { low = omega arith; high = omega arith; cases = inr w })
     (feed_cases s i z h)
-
--- it begins with no backslash
-pub feed_slash : (s : List ℕ) (i z : ℕ) → FeedAt s i z → get_or s i 0 ≡ 92 → ⊥
-feed_slash s i z v e =
-    ⊎_elim (λ (w : (z ≡ i + 1) × (get_or s i 0 ≡ 10)). differ (get_or s i 0) 10 92 refl w.1 e)
-    (λ (w : (z ≡ i + 2) × ((get_or s i 0 ≡ 13) × (get_or s (i + 1) 0 ≡ 10))). differ (get_or s i 0) 13 92 refl w.1.0 e)
-    v.cases
 
 -- there is none
 pub feed_no : (s : List ℕ) (i : ℕ) → feed_end s i ≡ None → ends_line (get_or s i 0) (first (drop (i + 1) s)) ≡ false
@@ -181,30 +173,8 @@ joined_start s = joined_at s JoinStart Start refl (λ k b. refl)
 pub joined_space : (s : List ℕ) (i z : ℕ) → FeedAt s i z → Joined s JoinSpace Space i z
 joined_space s = joined_at s JoinSpace Space refl (λ k b. refl)
 
--- the ways through `feed_end` and `join_end`
-module _ (s : List ℕ) (i : ℕ) where
-  pub feed_lf : first (drop i s) ≡ 10 → Some (i + 1) ≡ feed_end s i
-  unfolding feed_end
-  feed_lf e = rw e refl
-
-  pub feed_crlf : (first (drop i s) ≡ 10 → ⊥) → ends_line (first (drop i s)) (first (drop (i + 1) s)) ≡ true → Some (i + 2) ≡ feed_end s i
-  unfolding feed_end
-  feed_crlf n e = rw (ne_eqb _ 10 n, e) refl
-
-  pub feed_over : (first (drop i s) ≡ 10 → ⊥) → ends_line (first (drop i s)) (first (drop (i + 1) s)) ≡ false → None ≡ feed_end s i
-  unfolding feed_end
-  feed_over n e = rw (ne_eqb _ 10 n, e) refl
-
-  pub join_other : (first (drop i s) ≡ 92 → ⊥) → None ≡ join_end s i
-  unfolding join_end
-  join_other h = rw (ne_eqb _ 92 h) refl
-
-  pub join_slash : first (drop i s) ≡ 92 → feed_end s (i + 1) ≡ join_end s i
-  unfolding join_end
-  join_slash e = rw e refl
-
-  pub join_high : first (drop i s) ≡ 92 → i + 1 ≤ length s
-  join_high e = let l = byte_in s i 92 (sym (first_drop s i) ∙ e) (omega arith) in omega arith
+pub join_high : (s : List ℕ) (i : ℕ) → first (drop i s) ≡ 92 → i + 1 ≤ length s
+join_high s i e = let l = byte_in s i 92 (sym (first_drop s i) ∙ e) (omega arith) in omega arith
 
 -- a backslash before a line end
 
@@ -277,37 +247,6 @@ module _ (s : List ℕ) (i : ℕ) (h : i < length s) (r : Bool) (e : r ≡ point
       go true false a b = short b ∙ rw (ne_eqb _ 92 (other (ltb-true _ _ a))) (sym (one (eqb (get_or s (i - 1) 0) 13)))
       go false u a b = let n = ltb-false _ _ a in short (le-ltb 1 i (omega arith))
 
-slash_feed : (s : List ℕ) (i : ℕ) → get_or s i 0 ≡ 92 → slash_before s (i + 1) ≡ true
-unfolding slash_before
-slash_feed s i e =
-    let p : 0 < i + 1 = omega arith in
-    let q : i + 1 - 1 ≡ i = omega arith in
-    rw (lt-ltb 0 (i + 1) p, q, e) refl
-
-slash_return : (s : List ℕ) (i : ℕ) → get_or s i 0 ≡ 92 → get_or s (i + 1) 0 ≡ 13 → slash_before s (i + 2) ≡ true
-unfolding slash_before
-slash_return s i e f =
-    let p : 0 < i + 2 = omega arith in
-    let r : 1 < i + 2 = omega arith in
-    let q : i + 2 - 1 ≡ i + 1 = omega arith in
-    let t : i + 2 - 2 ≡ i = omega arith in
-    rw (lt-ltb 0 (i + 2) p, lt-ltb 1 (i + 2) r, q, t, f, e) refl
-
--- the LF that a backslash joins has it before its line end
-pub slash_join : (s : List ℕ) (i z : ℕ) → JoinAt s i z → (slash_before s (z - 1) ≡ true) × (get_or s (z - 1) 0 ≡ 10)
-slash_join s i z v =
-    ⊎_elim
-    (λ (w : (z ≡ i + 1 + 1) × (get_or s (i + 1) 0 ≡ 10)).
-    let e = w.0 in
-    let q : z - 1 ≡ i + 1 = omega arith in
-    rw q (slash_feed s i v.slash, w.1))
-    (λ (w : (z ≡ i + 1 + 2) × ((get_or s (i + 1) 0 ≡ 13) × (get_or s (i + 1 + 1) 0 ≡ 10))).
-    let e = w.0 in
-    let q : z - 1 ≡ i + 2 = omega arith in
-    let r : i + 1 + 1 ≡ i + 2 = omega arith in
-    rw q (slash_return s i v.slash w.1.0, rw r at w.1.1))
-    v.feed.cases
-
 -- as in a part of the file, so in the file
 pub slash_drop : (s : List ℕ) (k i : ℕ) → slash_before s (k + i) ≡ false → slash_before (drop k s) i ≡ false
 unfolding slash_before
@@ -336,11 +275,3 @@ slash_drop s k i h = go (ltb 0 i) (ltb 1 i) refl refl
         let a = ltb-true 0 i p in
         let a' : 0 < k + i = omega arith in
         rw (one a) (first_case (eqb (get_or s (k + i - 1) 0) 13) refl q (rw (lt-ltb 0 (k + i) a') at h))
-
--- for the crates that read line ends as numbers still
-
-pub feed_at : (s : List ℕ) (i z : ℕ) → z ≡ feed_number s i → (z ≡ 0 → ⊥) → FeedAt s i z
-feed_at s i z h n = feed_some s i z (feed_of s i z h n)
-
-pub feed_none : (s : List ℕ) (i z : ℕ) → z ≡ feed_number s i → z ≡ 0 → ends_line (get_or s i 0) (first (drop (i + 1) s)) ≡ false
-feed_none s i z h e = feed_no s i (feed_not s i z h e)

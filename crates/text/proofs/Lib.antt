@@ -6,12 +6,10 @@ pub mod Positions
 pub mod ByteKinds
 pub mod Feeds
 pub mod Readers
-pub mod Entries
 pub mod Pairs
 pub mod Passing
 pub mod LineEnds
 pub mod Told
-pub mod Tables
-pub mod Olds
 pub mod Sources
 pub mod Firsts
+pub mod Tables

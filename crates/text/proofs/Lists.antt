@@ -7,7 +7,8 @@ use mathlib.Core.Bool.{Bool, true, false, ◌||◌, ◌&&◌, cond}
 use lib.ListN.{length, drop}
 use lib.Dec.{eqb}
 use borrow.Author.Tests.{eqb-true, eq-eqb}
-use Rattle.text.specs.Bytes.{Text, same, empty, rest, all_of, any_of, concat_map, among}
+use Rattle.std.specs.List.{list_any}
+use Rattle.text.specs.Bytes.{Text, same, empty, all_of, any_of, concat_map, among}
 
 -- tests
 
@@ -49,10 +50,6 @@ pub empty_some : (t : Text) → (length t ≡ 0 → ⊥) → empty t ≡ false
 unfolding empty
 empty_some [] h = absurd (h refl)
 empty_some (b ∷ t) h = refl
-
-pub rest_cons : (b : ℕ) (t : Text) → rest (b ∷ t) ≡ t
-unfolding rest
-rest_cons b t = refl
 
 pub same_eq : (s t : Text) → same s t ≡ true → s ≡ t
 unfolding same
@@ -117,6 +114,12 @@ any_nil q = refl
 pub any_cons {ℓ} : {A : Type ℓ} (q : A → Bool) (x : A) (xs : List A) → any_of q (x ∷ xs) ≡ q x || any_of q xs
 unfolding any_of
 any_cons q x xs = refl
+
+-- as the library's iterators tell
+pub any_is : (q : ℕ → Bool) (w : List ℕ) → list_any q w ≡ any_of q w
+unfolding any_of
+any_is q [] = refl
+any_is q (b ∷ w) = rw (any_is q w)
 
 -- a test that some text of one list passes, some text of a list that holds all of them passes
 

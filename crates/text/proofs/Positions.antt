@@ -14,12 +14,11 @@ use Rattle.text.specs.declared.Class.{Class}
 use Rattle.text.specs.declared.Class.TheVariants.{Blank, Join, Slashes, Bang, Other}
 use Rattle.text.specs.declared.Place.{Place}
 use Rattle.text.specs.declared.Place.TheVariants.{Space, Word, Comment}
-use Rattle.text.specs.Bytes.{first, rest, part, any_of}
+use Rattle.text.specs.Bytes.{first, rest, part}
 use Rattle.text.specs.Marks.{class_of, Mark, char, gap, join, bang, end, at_feed, at_other, step, marks}
 use Rattle.text.specs.Lines.{run, words, feeds, inside, lines_of}
-use Rattle.text.specs.Words.{bad_byte}
 use Rattle.text.specs.Reading.{left, wordly, in_word, ahead, WordEnd, InWord}
-use Rattle.text.proofs.Lists.{no, any_nil, any_cons}
+use Rattle.text.proofs.Lists.{no}
 use Rattle.text.proofs.Comparing.{drop_at}
 
 pub first_drop : (s : List ℕ) (i : ℕ) → first (drop i s) ≡ get_or s i 0
@@ -51,11 +50,6 @@ unfolding part
 part_cons s a e lt h =
     let k : e - a ≡ suc (e - (a + 1)) = omega arith in
     rw (k, drop_at s a (omega arith))
-
--- a byte that goes on with a word
-pub in_word_of : (b c d : ℕ) (k : Class) → (b ≡ 10 → ⊥) → k ≡ class_of b c d → in_word b c d ≡ wordly k
-unfolding in_word
-in_word_of b c d k n e = rw (ne_eqb b 10 n, ← e)
 
 wordly_char : (b : ℕ) (k : Class) → wordly k ≡ true → at_other Word k b ≡ (char b, Word)
 unfolding wordly
@@ -222,24 +216,6 @@ first_in (x ∷ s) (suc k) h = suc-le-suc (first_in s k h)
 pub step_feed : (m : Place) (b c d : ℕ) → b ≡ 10 → step m b c d ≡ at_feed m
 unfolding step
 step_feed m b c d e = rw e
-
--- the loop of `any_bad`
-pub record NoneBad (s : List ℕ) (from e i : ℕ) : Type 0 where
-  pub low : from ≤ i
-  pub high : i ≤ e
-  pub rest : any_of bad_byte (part s from e) ≡ any_of bad_byte (part s i e)
-
-module _ (s : List ℕ) (from e i : ℕ) (v : NoneBad s from e i) where
-  pub none_bad_hit : i < e → e ≤ length s → bad_byte (get_or s i 0) ≡ true → true ≡ any_of bad_byte (part s from e)
-  none_bad_hit h k b = sym (v.rest ∙ rw (part_cons s i e h k, any_cons, b))
-
-  pub none_bad_more : i < e → e ≤ length s → bad_byte (get_or s i 0) ≡ false → NoneBad s from e (i + 1)
-  none_bad_more h k b = record { low = omega arith; high = omega arith; rest = v.rest ∙ rw (part_cons s i e h k, any_cons, b) }
-
-  pub none_bad_end : e ≤ i → false ≡ any_of bad_byte (part s from e)
-  none_bad_end h =
-      let q : i ≡ e = omega arith in
-      sym (v.rest ∙ rw (q, part_empty, any_nil))
 
 pub length_part : (s : List ℕ) (a e : ℕ) → e ≤ length s → length (part s a e) ≡ e - a
 unfolding part

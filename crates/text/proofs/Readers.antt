@@ -5,7 +5,7 @@ use mathlib.Core.Path.{◌≡◌, refl, sym, ◌∙◌}
 use mathlib.Core.List.{List, [], ◌∷◌, ◌++◌}
 use mathlib.Core.Logic.{⊎_elim}
 use mathlib.Core.Bool.{Bool, true, false, ◌||◌, ◌&&◌, cond}
-use borrow.Author.Tests.{eq-eqb, ne_eqb, leb-true, eqb-true, eqb-false, ltb-true, ltb-false, lt-ltb, le-ltb, le-leb}
+use borrow.Author.Tests.{eq-eqb, ne_eqb, leb-true, eqb-true, eqb-false, ltb-true, ltb-false, le-ltb, le-leb}
 use lib.Dec.{eqb, ltb, leb}
 use lib.ListN.{length, get_or, take, drop, length-drop, drop_of_length-le}
 use lib.Seq.{get_or-drop, take-length}
@@ -15,27 +15,19 @@ use Rattle.std.specs.Cmp.Lexicographic.{pointwise}
 use Rattle.text.specs.declared.Class.TheVariants.{Blank, Join, Slashes, Bang, Other}
 use Rattle.text.specs.declared.Place.{Place}
 use Rattle.text.specs.declared.Place.TheVariants.{Start, Space, Comment}
-use Rattle.text.specs.declared.Next as old
-use Rattle.text.specs.declared.Next.TheVariants as of_old
-use Rattle.text.specs.declared.Plain.{Plain as PlainRead}
-use Rattle.text.specs.declared.Plain.TheVariants as plain
 use Rattle.text.specs.declared.kinds.Kind.{Kind}
 use Rattle.text.specs.declared.kinds.Kind.TheVariants as kind
-use Rattle.text.specs.declared.source.Next.{Next}
-use Rattle.text.specs.declared.source.Next.TheVariants.{Found, Stop}
 use Rattle.text.specs.Bytes.{Words, first, part, all_of, any_of}
 use Rattle.text.specs.Marks.{ends_line, class_of, Mark, char, gap, join, bang, end, at_feed, at_other, step, marks}
 use Rattle.text.specs.Lines.{run, words, heading, Line, lines_of}
 use Rattle.text.specs.Words.{bad_byte, too_long, words_fault}
 use Rattle.text.specs.Kinds.{kind_of, rank, blank, begins_plain, ends_plain}
 use Rattle.text.specs.Reading.{left, ahead, follow, fault_of, lower, Fenced, WordEnd, InWord, OddWord, CommentEnd, Blanks, FoundWord, NoWord, Between, PlainFound, ByteWord, Opens}
-use Rattle.text.specs.Reading.{kind_of as kind_number, NextWord as NextOld, PlainWord as PlainOld, ValueWord as ValueOld, Skipped as SkippedOld}
-use Rattle.text.specs.Sources.{feed_end, join_end, Skipped, SkippedJoins, Opened, RunEnd, PlainWhole, NextWord}
+use Rattle.text.specs.Sources.{feed_end, join_end, Skipped, SkippedJoins, Opened, RunEnd, PlainWhole}
 use Rattle.text.proofs.Firsts.{tail, tail_length, tail_at, First, first_some, first_none}
 use Rattle.text.proofs.Lists.{no, and_both, any_nil, any_cons}
 use Rattle.text.proofs.Positions.{first_drop, part_empty, part_cons, part_snoc, in_word_start, in_word_more, in_word_over, in_word_end, in_word_at, marks_at, step_other, step_feed, comment_words, first_in, length_part, lines_char, lines_gap, lines_bang, lines_end, lines_nil}
 use Rattle.text.proofs.ByteKinds.{not_bad, plain_in_word, meant, blank_class, rank_clean, rank_percent, plain_stop, ends_no, ends_feed, Begins, begins_char, plain_begins, plain_kind, join_class, note_class, bang_class, return_class, differ}
-use Rattle.text.proofs.Olds.{number_blank, blank_number}
 use Rattle.text.proofs.Feeds.{FeedAt, JoinAt, byte_in, feed_no, join_some, join_no, join_ends, joined_start, joined_space, slash_drop}
 
 -- two bytes, side by side
@@ -248,14 +240,6 @@ word_first s from h None w =
     in_word_end s from (length s) (rw q at v) (omega arith)
 
 module _ (s : List ℕ) (a e : ℕ) (lt : a < length s) (w : WordEnd s (a + 1) e) where
-  pub odd_bad : any_of bad_byte (part s a e) ≡ true → OddWord s a e 4
-  unfolding fault_of
-  odd_bad h = record { ends = w; fault = rw h refl }
-
-  pub odd_long : any_of bad_byte (part s a e) ≡ false → 256 < e - a → OddWord s a e 5
-  unfolding fault_of too_long
-  odd_long h k = record { ends = w; fault = rw (h, length_part s a e w.high, lt-ltb _ _ k) refl }
-
   pub odd_fine : any_of bad_byte (part s a e) ≡ false → e - a ≤ 256 → OddWord s a e 0
   unfolding fault_of too_long
   odd_fine h k = record { ends = w; fault = rw (h, length_part s a e w.high, le-ltb _ _ k) refl }
@@ -662,8 +646,9 @@ module _ (s : List ℕ) (f i : ℕ) (v : Fenced s f) (h : i < f) where
   pub fence_blank : blank (get_or s i 0) ≡ true → i + 1 < f
   fence_blank k = fence_more (blank_class (get_or s i 0) 0 0 k).1
 
-pub fenced_none : (s : List ℕ) → Fenced s 0
-fenced_none s = record { high = omega arith; last = λ h. absurd (omega (arith, h)); free = λ h. absurd (omega (arith, h)) }
+-- a byte other than LF has another behind it
+pub fence_at : (s : List ℕ) (f i b : ℕ) → Fenced s f → i < f → get_or s i 0 ≡ b → eqb b 10 ≡ false → i + 1 < length s
+fence_at s f i b v h e n = fence_in s f (i + 1) v (fence_more s f i v h (differ _ b 10 n e))
 
 -- the fence of a part of the file
 pub fence_part : (s : List ℕ) (f from : ℕ) → Fenced s f → Fenced (drop from s) (f - from)
@@ -778,41 +763,3 @@ pub gaps_two : (s : List ℕ) (f from i : ℕ) → Fenced s f → FastBlanks s f
 gaps_two s f from i v w k k₁ =
     let q : i + 1 + 1 ≡ i + 2 = omega arith in
     rw q at (gaps_more s f from (i + 1) v (gaps_more s f from i v w k) k₁)
-
-pub between_then : (s : List ℕ) (from n i m : ℕ) (r : Next) → Between s from n i m → NextWord s i m r → NextWord s from n r
-between_then s from n i m (Found a e m' f) v w =
-    record { low = omega (arith, v.low, w.low); some = w.some; high = w.high; few = w.few; grow = omega (arith, v.grow, w.grow); text = v.text ∙ w.text; onto = v.onto ∙ w.onto; fault = w.fault }
-between_then s from n i m (Stop p m') v w =
-    record { low = omega (arith, v.low, w.low); onwards = omega (arith, v.low, w.onwards); high = w.high; few = w.few; grow = omega (arith, v.grow, w.grow); none = v.text ∙ w.none; onto = v.onto ∙ w.onto }
-
-pub between_none : (s : List ℕ) (from n : ℕ) → from ≤ length s → n ≤ from + 1 → Between s from n from n
-between_none s from n h k = record { low = omega arith; high = h; few = k; grow = omega arith; text = refl; onto = refl }
-
--- For the crates that read by numbers still: these go when the last of them has moved.
-
-pub found : (s : List ℕ) (i n : ℕ) (r : old.Next) (a e m f : ℕ) → r ≡ of_old.Found a e m f → NextOld s i n r → FoundWord s i n a e m f
-found s i n r a e m f q h = rw q at h
-
-pub stopped : (s : List ℕ) (i n : ℕ) (r : old.Next) (p m : ℕ) → r ≡ of_old.Stop p m → NextOld s i n r → NoWord s i n p m
-stopped s i n r p m q h = rw q at h
-
-pub plainly : (s : List ℕ) (f i : ℕ) (r : PlainRead) (a e : ℕ) → r ≡ plain.Word a e → PlainOld s f i r → PlainFound s f i a e
-plainly s f i r a e q h = rw q at h
-
-pub valued : (s : List ℕ) (f i : ℕ) (r : PlainRead) (a e : ℕ) → r ≡ plain.Word a e → ValueOld s f i r → PlainFound s f i a e × (any_of (λ b. eqb b 37) (part s a e) ≡ false)
-valued s f i r a e q h = rw q at h
-
-not_true : (t : Bool) → (t ≡ true → ⊥) → t ≡ false
-not_true true h = absurd (h refl)
-not_true false h = refl
-
-pub record Same (b c d : ℕ) : Type 0 where
-  pub blank : kind_number b ≡ 1 → ⊥
-  pub bang : b ≡ 33 → ⊥
-  pub joins : b ≡ 92 → ends_line c d ≡ false
-
-pub opened_same : (s : List ℕ) (from n i m : ℕ) → Opened s from n i m → i < length s → Same (get_or s i 0) (first (drop (i + 1) s)) (first (drop (i + 2) s)) → Opens s from n false i m
-opened_same s from n i m v h e = opened_onset s from n i m v h (record { blank = not_true _ (λ k. e.blank (blank_number _ k)); bang = e.bang; joins = e.joins })
-
-pub skipped_old : (s : List ℕ) (at r : ℕ) → Skipped s at r → SkippedOld s at r
-skipped_old s at r v = record { blanks = v.blanks; stop = λ h k. no (sym (v.stop h) ∙ number_blank _ k) }

@@ -1,41 +1,13 @@
 -- The code's faults as the numbers of the definitions.
-use Prim.Native.Nat.{ℕ, ◌≤◌, ◌<◌}
+use Prim.Native.Nat.{◌≤◌, ◌<◌}
 use native.Mathlib.Omega.{arith}
-use mathlib.Core.Path.{◌≡◌, refl, sym, ◌∙◌}
-use mathlib.Core.List.{List, [], ◌∷◌}
-use lib.ListN.{length}
-use borrow.Author.Tests.{lt-ltb, le-ltb}
-use mathlib.Core.Bool.{true, false}
+use mathlib.Core.Path.{◌≡◌, sym}
 use Rattle.std.specs.Prelude.{Option, Some, None}
-use Rattle.std.specs.List.{list_any}
 use Rattle.text.specs.declared.faults.Fault.{Fault}
-use Rattle.text.specs.Bytes.{any_of}
-use Rattle.text.specs.Words.{bad_byte, too_long}
 use Rattle.text.specs.declared.faults.Fault.TheVariants.{BadText, TooMany, LongFile, BadByte, LongWord, BadLine, BadHeading, BadPercent, IncludeLine, BadGroup, NoRoom, BadCard}
 use Rattle.text.specs.Told.{number_of, fault_number}
-use Rattle.text.specs.Reading.{fault_of, lower}
+use Rattle.text.specs.Reading.{lower}
 use Rattle.text.proofs.Readers.{lower_zero, lower_none, lower_min}
-
--- the fault of a word by itself
-
-pub any_is : (w : List ℕ) → list_any bad_byte w ≡ any_of bad_byte w
-unfolding any_of
-any_is [] = refl
-any_is (b ∷ w) = rw (any_is w)
-
-module _ (w : List ℕ) where
-  pub bad_word : list_any bad_byte w ≡ true → 4 ≡ fault_of w
-  unfolding fault_of
-  bad_word h = rw (sym (any_is w) ∙ h) refl
-
-  module _ (h : list_any bad_byte w ≡ false) where
-    pub long_word : 256 < length w → 5 ≡ fault_of w
-    unfolding fault_of too_long
-    long_word k = rw (sym (any_is w) ∙ h, lt-ltb _ _ k) refl
-
-    pub fine_word : length w ≤ 256 → 0 ≡ fault_of w
-    unfolding fault_of too_long
-    fine_word k = rw (sym (any_is w) ∙ h, le-ltb _ _ k) refl
 
 pub number_some : (f : Fault) → number_of f ≡ 0 → ⊥
 number_some BadText h = omega arith

@@ -2,13 +2,9 @@
 use Rattle.std.specs.Prelude.{◌≡◌, ℕ, zero, suc, min, ◌+◌, ◌-◌, ◌≤◌, ◌<◌, List, [], ◌∷◌, ◌++◌, Bool, true, false, ◌&&◌, cond, eqb, ltb, length, drop, get_or}
 use Rattle.text.specs.declared.Class.{Class}
 use Rattle.text.specs.declared.Class.TheVariants.{Blank, Join, Slashes, Bang, Other}
-use Rattle.text.specs.declared.Next.{Next}
-use Rattle.text.specs.declared.Next.TheVariants.{Found, Stop}
-use Rattle.text.specs.declared.Plain.{Plain}
-use Rattle.text.specs.declared.Plain.TheVariants as plain
 use Rattle.text.specs.declared.Place.TheVariants.{Start, Space, Word, Comment}
-use Rattle.text.specs.Bytes.{Words, first, any_of, part}
-use Rattle.text.specs.Marks.{ends_line, class_of, marks}
+use Rattle.text.specs.Bytes.{Words, any_of, part}
+use Rattle.text.specs.Marks.{class_of, marks}
 use Rattle.text.specs.Lines.{run, words, heading, Line, lines_of}
 use Rattle.text.specs.Words.{bad_byte, too_long}
 
@@ -27,12 +23,6 @@ wordly Other = true
 unfoldable pub in_word : ℕ → ℕ → ℕ → Bool
 in_word b c d = cond (eqb b 10) false (wordly (class_of b c d))
 
--- behind the line end at i, LF or CR LF; 0 where none stands there
-unfoldable pub feed_end : List ℕ → ℕ → ℕ
-feed_end s i =
-    cond (eqb (first (drop i s)) 10) (i + 1)
-    (cond (ends_line (first (drop i s)) (first (drop (i + 1) s))) (i + 2) 0)
-
 -- the lines after the one that is being read: from a position in its words on, and from the start of a line on
 unfoldable pub ahead : List ℕ → ℕ → ℕ → List Line
 ahead s at n = lines_of n true (marks Space (drop at s))
@@ -49,13 +39,6 @@ lower zero g = g
 lower (suc f) zero = suc f
 lower (suc f) (suc g) = suc (min f g)
 
--- the kind of a byte: 0 a plain byte that is no slash, 1 a blank, 2 LF, 4 CR, 3 any other
-unfoldable pub kind_of : ℕ → ℕ
-kind_of b = cond (eqb b 32) 1 (cond (eqb b 9) 1 (cond (eqb b 10) 2 (cond (bad_byte b) (cond (eqb b 13) 4 3) (cond (eqb b 47) 3 0))))
-
-pub record Table (t : List ℕ) : Type 0 where
-  pub kinds : (b : ℕ) → b < 256 → get_or t (256 + b) 0 ≡ kind_of b
-
 -- a backslash stands before the line end whose LF is at i, LF or CR LF
 unfoldable pub slash_before : List ℕ → ℕ → Bool
 slash_before s i =
@@ -66,13 +49,6 @@ pub record Fenced (s : List ℕ) (f : ℕ) : Type 0 where
   pub high : f ≤ length s
   pub last : 0 < f → get_or s (f - 1) 0 ≡ 10
   pub free : 0 < f → slash_before s (f - 1) ≡ false
-
--- what the readers ask
-pub record Within (s t : List ℕ) (fence from line : ℕ) : Type 0 where
-  pub high : from ≤ length s
-  pub few : line ≤ from + 1
-  pub table : Table t
-  pub fenced : Fenced s fence
 
 -- What the readers promise. `grow`: a physical line takes at least one byte.
 
@@ -110,10 +86,6 @@ pub record Blanks (s : List ℕ) (at r : ℕ) : Type 0 where
   pub mark₀ : heading (marks Start (drop at s)) ≡ heading (marks Start (drop r s))
   pub text₀ : words false (marks Start (drop at s)) ≡ words false (marks Start (drop r s))
   pub onto₀ : (n : ℕ) → lines_of n true (marks Start (drop at s)) ≡ lines_of n true (marks Start (drop r s))
-
-pub record Skipped (s : List ℕ) (at r : ℕ) : Type 0 where
-  pub blanks : Blanks s at r
-  pub stop : r < length s → kind_of (get_or s r 0) ≡ 1 → ⊥
 
 -- The next word is from a up to e, in the physical line m, with the refusal f. What is ahead is what is ahead after it.
 pub record FoundWord (s : List ℕ) (at n a e m f : ℕ) : Type 0 where
@@ -157,24 +129,11 @@ pub record PlainFound (s : List ℕ) (f at a e : ℕ) : Type 0 where
   pub found : (n : ℕ) → n ≤ at + 1 → FoundWord s at n a e n 0
   pub inside : e < f
 
-abbrev pub PlainWord : List ℕ → ℕ → ℕ → Plain → Type 0
-PlainWord s f at (plain.Word a e) = PlainFound s f at a e
-PlainWord s f at plain.Other = Unit {0}
-
--- a plain word without percent signs
-abbrev pub ValueWord : List ℕ → ℕ → ℕ → Plain → Type 0
-ValueWord s f at (plain.Word a e) = PlainFound s f at a e × (any_of (λ b. eqb b 37) (part s a e) ≡ false)
-ValueWord s f at plain.Other = Unit {0}
-
 -- the word of the byte b alone, up to e
 pub record ByteWord (s : List ℕ) (f at b e : ℕ) : Type 0 where
   pub start : ℕ
   pub word : PlainFound s f at start e
   pub text : part s start e ≡ b ∷ []
-
-abbrev pub NextWord : List ℕ → ℕ → ℕ → Next → Type 0
-NextWord s at n (Found a e m f) = FoundWord s at n a e m f
-NextWord s at n (Stop p m) = NoWord s at n p m
 
 -- the heading mark and the words of the line at `from`, whose words are read from `at` on, in the physical line m
 pub record Opens (s : List ℕ) (from n : ℕ) (bang : Bool) (at m : ℕ) : Type 0 where

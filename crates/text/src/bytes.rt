@@ -4,7 +4,7 @@ ghost use Rattle.text.specs.Bytes.{first};
 ghost use Rattle.text.specs.Marks.{ends_line, class_of};
 ghost use Rattle.text.specs.Kinds.{blank};
 ghost use Rattle.text.specs.Words.{bad_byte};
-ghost use Rattle.text.specs.Reading.{in_word, kind_of, Table, lower as lower_of};
+ghost use Rattle.text.specs.Reading.{in_word};
 
 use super::Class;
 
@@ -76,23 +76,4 @@ pub fn is_blank(b: u8) -> bool
     ensures { result ≡ blank b }
 {
     b == b' ' || b == b'\t'
-}
-
-pub fn kind(t: &[u8; 512], b: u8) -> u8
-    requires { Table t.now }
-    ensures { result ≡ kind_of b }
-{
-    t[256 + b as usize]
-}
-
-pub fn lower(f: usize, g: usize) -> usize
-    ensures { result ≡ lower_of f g }
-{
-    if f == 0 {
-        return g;
-    }
-    if g == 0 {
-        return f;
-    }
-    if f < g { f } else { g }
 }

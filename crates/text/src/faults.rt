@@ -36,6 +36,7 @@ pub struct Refusal {
 }
 
 // The fault of the lower number, if there is any.
+#[tactic(auto, using(crate::proofs::Told::lower_left, crate::proofs::Told::lower_right))]
 pub fn lower(f: Option<Fault>, g: Option<Fault>) -> Option<Fault>
     ensures { fault_number result ≡ lower_of (fault_number f) (fault_number g) }
 {

@@ -5,9 +5,7 @@ pub mod bytes;
 pub mod compare;
 pub mod faults;
 pub mod kinds;
-pub mod reader;
 pub mod source;
-pub mod table;
 
 // What a byte other than LF means, by itself and the byte after it.
 #[derive(Clone, Copy)]
@@ -31,45 +29,16 @@ pub enum Place {
     JoinSpace,
 }
 
-// A refusal: a number of document 01, and the place that goes with it.
+// A refusal as the definitions tell it: a number of document 01, and the place that goes with it. The code's own is `faults::Refusal`.
 #[derive(Clone, Copy)]
 pub struct Refusal {
     pub number: usize,
     pub place: usize,
 }
 
-// The next word of a line, with the number of the physical line that it stands in and its refusal; or the start of the next line, and its number.
-#[derive(Clone, Copy)]
-pub enum Next {
-    Found {
-        start: usize,
-        end: usize,
-        line: usize,
-        fault: usize,
-    },
-    Stop {
-        next: usize,
-        line: usize,
-    },
-}
-
-// A word before the fence that is plain, with only blanks before it; or anything else, for a reader that takes all.
-#[derive(Clone, Copy)]
-pub enum Plain {
-    Word { start: usize, end: usize },
-    Other,
-}
-
 #[derive(Clone, Copy)]
 pub struct Opening {
     pub heading: bool,
-    pub at: usize,
-    pub line: usize,
-}
-
-// Where a line starts, and its number.
-#[derive(Clone, Copy)]
-pub struct LineStart {
     pub at: usize,
     pub line: usize,
 }

@@ -1,7 +1,8 @@
 // A file, and the readers of its lines and words.
 ghost use Rattle.std.specs.Prelude.{◌≡◌, ◌+◌, ◌-◌, ◌≤◌, ◌<◌, true, length, get_or, drop};
 ghost use Rattle.text.specs.declared.kinds.Kind.TheVariants.{Plain as PlainKind};
-ghost use Rattle.text.specs.Bytes.{first, part};
+ghost use Rattle.text.specs.Bytes.{first, part, any_of};
+ghost use Rattle.text.specs.Words.{bad_byte};
 ghost use Rattle.text.specs.Kinds.{kind_of, rank, begins_plain, ends_plain};
 ghost use Rattle.text.specs.Told.{fault_number};
 ghost use Rattle.text.specs.Reading.{Fenced, WordEnd, CommentEnd, Opens, fault_of, slash_before};
@@ -38,6 +39,7 @@ pub struct Source<'a> {
 }
 
 // Behind the line end at i, LF or CR LF, if one stands there.
+#[tactic(auto, unfolding(crate::specs::Sources::feed_end))]
 pub fn feed_end(s: &[u8], i: usize) -> Option<usize>
     requires { i ≤ length s.now }
     ensures { result ≡ feed_end s.now i }
@@ -53,6 +55,7 @@ pub fn feed_end(s: &[u8], i: usize) -> Option<usize>
 }
 
 // Behind the line end that the backslash at i joins, if one does.
+#[tactic(auto, using(crate::proofs::Feeds::join_high), unfolding(crate::specs::Sources::join_end))]
 fn join_end(s: &[u8], i: usize) -> Option<usize>
     requires { i ≤ length s.now }
     ensures { result ≡ join_end s.now i }
@@ -64,6 +67,7 @@ fn join_end(s: &[u8], i: usize) -> Option<usize>
 }
 
 // Whether a backslash stands before the line end whose LF is at i: it joins, unless it stands in a comment.
+#[tactic(auto, using(crate::proofs::Feeds::slash_one, crate::proofs::Feeds::slash_two))]
 fn slash_before(s: &[u8], i: usize) -> bool
     requires { i < length s.now }
     ensures { result ≡ slash_before s.now i }
@@ -84,10 +88,18 @@ fn fence_of(s: &[u8]) -> usize
     0
 }
 
+fn any_bad(w: &[u8]) -> bool
+    ensures { result ≡ any_of bad_byte w.now }
+{
+    w.iter().any(|b| bad_byte(*b))
+}
+
+// The fault of a word by itself.
+#[tactic(auto, unfolding(crate::specs::Reading::fault_of, crate::specs::Words::too_long))]
 fn word_fault(w: &[u8]) -> Option<Fault>
     ensures { fault_number result ≡ fault_of w.now }
 {
-    if w.iter().any(|b| bad_byte(*b)) {
+    if any_bad(w) {
         return Some(Fault::BadByte);
     }
     let long = LONGEST_WORD < w.len();
@@ -105,6 +117,7 @@ impl<'a> Source<'a> {
     }
 
     // The bytes from `start` up to `end`.
+    #[tactic(auto, unfolding(crate::specs::Bytes::part))]
     pub fn word(&self, start: usize, end: usize) -> &'a [u8]
         requires { (start ≤ end) × (end ≤ length self.now.bytes.now) }
         ensures { result.now ≡ part self.now.bytes.now start end }
@@ -143,6 +156,7 @@ impl<'a> Source<'a> {
     {
         let s = self.bytes;
         let mut i = from;
+        // two bytes a turn: the fence makes a test of the end needless, which an iterator has
         loop {
             if !is_blank(s[i]) {
                 return i;
@@ -232,6 +246,7 @@ impl<'a> Source<'a> {
     {
         let s = self.bytes;
         let mut i = from;
+        // four bytes a turn, for the same reason
         loop {
             if most < Kind::of(s[i]) {
                 return i;
@@ -250,6 +265,7 @@ impl<'a> Source<'a> {
     }
 
     // Whether a plain word may begin at i.
+    #[tactic(auto, using(crate::proofs::Readers::fence_at, crate::proofs::Positions::first_drop, crate::proofs::ByteKinds::begins_yes, crate::proofs::ByteKinds::begins_at_slash, crate::proofs::ByteKinds::begins_percent))]
     fn begins_plain(&self, i: usize) -> bool
         requires { i < self.now.fence }
         ensures { result ≡ begins_plain (get_or self.now.bytes.now i 0) (first (drop (i + 1) self.now.bytes.now)) }
@@ -265,6 +281,7 @@ impl<'a> Source<'a> {
     }
 
     // Whether a plain word ends before the byte at i: a blank or a line end.
+    #[tactic(auto, using(crate::proofs::Readers::fence_at, crate::proofs::Positions::first_drop, crate::proofs::ByteKinds::ends_blank, crate::proofs::ByteKinds::ends_at_return, crate::proofs::ByteKinds::ends_feed_only))]
     fn ends_plain(&self, i: usize) -> bool
         requires { i < self.now.fence }
         ensures { result ≡ ends_plain (get_or self.now.bytes.now i 0) (first (drop (i + 1) self.now.bytes.now)) }
@@ -298,6 +315,7 @@ impl<'a> Source<'a> {
     }
 
     // A plain word, if one is next. None says nothing, as above.
+    #[tactic(auto, using(crate::proofs::Readers::plain_found))]
     pub fn plain_word(&self, from: usize) -> Option<Span>
         requires { from < self.now.fence }
         ensures { PlainWord self.now.bytes.now self.now.fence from result }
@@ -324,6 +342,7 @@ impl<'a> Source<'a> {
     }
 
     // The word that is the byte b alone, if it is next: its end. None says nothing, as above.
+    #[tactic(auto, using(crate::proofs::Readers::byte_next, crate::proofs::Readers::byte_alone))]
     pub fn byte_word(&self, from: usize, b: u8) -> Option<usize>
         requires { (from < self.now.fence) × (kind_of b ≡ PlainKind) }
         ensures { ByteWord self.now.bytes.now self.now.fence from b result }

@@ -7,7 +7,7 @@ use mathlib.Core.Bool.{Bool, true, false, cond}
 use lib.ListN.{length, take, drop, get_or, set, length-append, length-take, length-drop, length-set}
 use lib.Dec.{eqb}
 use borrow.Author.Tests.{ne_eqb, lt-ltb}
-use Rattle.text.specs.Bytes.{Text, bytes, same, first, part}
+use Rattle.text.specs.Bytes.{Text, bytes, same, first}
 use Rattle.text.proofs.Comparing.{same_length}
 use Rattle.text.proofs.Lists.{no, or_right}
 use Rattle.output.specs.Store.{stored, farthest, past, Wrote}
@@ -16,7 +16,7 @@ use Rattle.rules.specs.Headings.{decimal}
 use Rattle.rules.proofs.Pieces.{tail_whole}
 use Rattle.values.specs.Spread.{is_sign, signed, ends_all, copy, copies, spread}
 use Rattle.values.specs.Cutting.{sign_of, behind_sign}
-use Rattle.values.proofs.Writes.{past_near, part_whole, wrote_long, Writing, writing_start, writing_more, writing_end}
+use Rattle.values.proofs.Writes.{past_near, wrote_long, Writing, writing_start, writing_more, writing_end}
 
 -- signs
 
@@ -83,12 +83,12 @@ copy_cons k b t h e = copy_signed k (b ∷ t) h (signed_cons b t e)
 
 -- a text with a number behind it, where there is room for it and where there is none
 module _ (d : Text) (t : Text) (k at : ℕ) (l : length d ≤ farthest) where
-  pub numbered_written : (d₁ : Text) (a r : ℕ) → k < 10 → a ≡ at → a + length t + 2 ≤ length d → d₁ ≡ stored d a (part t 0 (length t)) → r ≡ at + (length t + 2) →
-      Wrote d (set (set d₁ (a + length t) 58) (a + length t + 1) (48 + k)) at (t ++ (58 ∷ decimal k)) r
+  pub numbered_written : (d₁ : Text) (r : ℕ) → k < 10 → at + length t + 2 ≤ length d → d₁ ≡ stored d at t → r ≡ at + (length t + 2) →
+      Wrote d (set (set d₁ (at + length t) 58) (at + length t + 1) (48 + k)) at (t ++ (58 ∷ decimal k)) r
   unfolding stored decimal
-  numbered_written d₁ a r f e g x y =
+  numbered_written d₁ r f g x y =
       record {
-        text = sym (stored_append d at t (58 ∷ decimal k) ∙ rw (lt-ltb k 10 f, x, part_whole t, e));
+        text = sym (stored_append d at t (58 ∷ decimal k) ∙ rw (lt-ltb k 10 f, x));
         next = y ∙ (past_near at (length t + 2) (omega arith) ∙ ap (past at) (sym (length-append t (58 ∷ decimal k) ∙ rw (lt-ltb k 10 f))));
       }
 
@@ -107,13 +107,13 @@ pub copy_put : (d d₁ d₂ : Text) (b : ℕ) (t : Text) (k at z r : ℕ) → 2 
 copy_put d d₁ d₂ b t k at z r h e l p u = rw (copy_cons k b t h e) (wrote_then d d₁ d₂ at (b ∷ []) (t ++ (58 ∷ decimal k)) z r l p u)
 
 -- written where there is room
-pub copy_written : (d d₁ : Text) (b : ℕ) (t : Text) (k at z : ℕ) → 2 ≤ k → k < 10 → is_sign b ≡ true → d₁ ≡ stored (set d at b) (at + 1) (part t 0 (length t)) →
+pub copy_written : (d d₁ : Text) (b : ℕ) (t : Text) (k at z : ℕ) → 2 ≤ k → k < 10 → is_sign b ≡ true → d₁ ≡ stored (set d at b) (at + 1) t →
     z ≡ at + 1 + length t → set (set d₁ z 58) (z + 1) (48 + k) ≡ stored d at (copy k (b ∷ t))
 unfolding stored decimal
 copy_written d d₁ b t k at z h f e x q =
     sym (ap (stored d at) (copy_cons k b t h e)
     ∙ (stored_append (set d at b) (at + 1) t (58 ∷ decimal k)
-    ∙ rw (lt-ltb k 10 f, ← q, x, part_whole t)))
+    ∙ rw (lt-ltb k 10 f, ← q, x)))
 
 copies_cons : (j k : ℕ) (t : Text) → copies (suc j) k t ≡ copy k t ++ copies j (k + 1) t
 unfolding copies

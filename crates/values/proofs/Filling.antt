@@ -99,13 +99,13 @@ module _ (p : Profile) (k : ℕ) (w d d' : Text) (i o : ℕ) (v : Going p k w d 
   going_over : length w ≤ i → Wrote d d' 0 (filled p k w) o
   going_over h = writing_end d d' 0 (filled p k w) o (rw (drop_of_length-le w h, filled_none) at v.left)
 
-filled_of : (d d' t : Text) (o r : ℕ) → length t ≤ length d → length d ≤ farthest → Wrote d d' 0 t o → r ≡ o → Filled d d' t r
+filled_of : (d d' t : Text) (r : ℕ) → length t ≤ length d → length d ≤ farthest → Wrote d d' 0 t r → Filled d d' t r
 unfolding past
-filled_of d d' t o r h l w e =
+filled_of d d' t r h l w =
     let n : r ≡ length t = omega (arith, w.next) in
     let z : 0 + length t ≡ length t = omega arith in
     let k : 0 + length t ≤ length d = omega arith in
-    let x = wrote_long d d' 0 t o w in
+    let x = wrote_long d d' 0 t r w in
     record { size = n; text = rw (n, w.text) (rw z at (take_stored d 0 t k)); fits = omega arith; long = x }
 
 -- how long a filled word gets
@@ -223,11 +223,9 @@ module _ (p : Profile) (short : ShortValues p) (k : ℕ) where
   unfolding filled
   filled_short t = omega (arith, short_pieces zero t)
 
-  pub going_end : (w d d' : Text) (i o r : ℕ) → Going p k w d d' i o → length w ≤ i → most_per_byte * length w ≤ length d →
-      length d ≤ farthest → r ≡ o → Filled d d' (filled p k w) r
-  going_end w d d' i o r g h a b e =
-      filled_of d d' (filled p k w) o r (omega (arith, filled_short w)) b
-      (going_over p k w d d' i o g h) e
+  pub going_end : (w d d' : Text) (i o : ℕ) → Going p k w d d' i o → length w ≤ i → most_per_byte * length w ≤ length d → length d ≤ farthest →
+      Filled d d' (filled p k w) o
+  going_end w d d' i o g h a b = filled_of d d' (filled p k w) o (omega (arith, filled_short w)) b (going_over p k w d d' i o g h)
 
 -- `any_of` is std's
 pub any_listed : (q : ℕ → Bool) (t : Text) → list_any q t ≡ any_of q t

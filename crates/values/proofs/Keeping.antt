@@ -14,12 +14,12 @@ use Rattle.text.proofs.Lists.{no, or_right, same_eq}
 use Rattle.text.proofs.Numbers.{below_or}
 use Rattle.text.proofs.Positions.{part_empty, part_cons}
 use Rattle.rules.specs.Headings.{decimal}
+use Rattle.rules.proofs.Pieces.{tail_whole}
 use Rattle.profile.specs.Profile.{push}
 use Rattle.values.specs.Spread.{is_sign, signed, cuts, ends_all, stem, copies, spread}
 use Rattle.std.specs.Prelude.{Option, Some, None}
 use Rattle.values.specs.Cutting.{upto, closes_all, FreeOfAll, FirstAll, FirstColon, ToColon, start_of, more_copies}
 use Rattle.values.proofs.Cuts.{beyond, InCut, later, cuts_first, first_cut, upto_sign, upto_other, upto_nil, beyond_other, upto_beyond, beyond_starts, CutEnd, in_cut_start, in_cut_more, in_cut_end, cut_at, cut_over}
-use Rattle.values.proofs.Writes.{part_whole}
 use Rattle.values.proofs.Copying.{all_long, ends_long, first_copy, spread_nil}
 
 signless : (k : ℕ) → k < 4 → is_sign (get_or (bytes ":all") k 0) ≡ false
@@ -365,9 +365,10 @@ kept_last t from f n =
 
 -- a text too short for `:all`
 pub short_kept : (n : ℕ) (t : Text) → length t < 4 → t ≡ concat_map (spread n) (cuts t)
+unfolding part
 short_kept n t h =
     let f : FreeOfAll t 0 (length t) = record { low = omega arith; high = omega arith; free = λ k a b. closes_short t k (omega arith) } in
-    sym (kept_last t 0 f n ∙ part_whole t)
+    sym (kept_last t 0 f n ∙ tail_whole t 0 (omega arith))
 
 module _ (t : Text) (from c : ℕ) (f : FirstAll t from c) where
   abbrev p : ℕ

@@ -6,7 +6,6 @@ pub mod Choices
 pub mod Filling
 pub mod Begins
 pub mod Profiles
-pub mod Places
 pub mod Placed
 pub mod Keeping
 pub mod Spreading

@@ -43,11 +43,11 @@ module _ (t : Text) (from c s n : ℕ) (e : s ≡ start_of t from c) where
     pub more_counted : (m : ℕ) → m ≡ (n - 1) * (length r + 3) → m ≡ length (more_copies n t from c)
     more_counted m z = z ∙ (copies_counted n u r some few y ∙ ap length (sym piece))
 
-    pub more_written : (b : ℕ) (d d' : Text) (at a o m : ℕ) → b ≡ sign_of u → a ≡ at → d' ≡ stored d a (copies (n - 1) 2 (b ∷ r)) → m ≡ (n - 1) * (length r + 3) →
-        a + m ≤ length d → length d ≤ farthest → o ≡ at + m → Wrote d d' at (more_copies n t from c) o
-    more_written b d d' at a o m x q w z h l v =
+    pub more_written : (b : ℕ) (d d' : Text) (at o m : ℕ) → b ≡ sign_of u → d' ≡ stored d at (copies (n - 1) 2 (b ∷ r)) → m ≡ (n - 1) * (length r + 3) →
+        at + m ≤ length d → length d ≤ farthest → o ≡ at + m → Wrote d d' at (more_copies n t from c) o
+    more_written b d d' at o m x w z h l v =
         record {
-          text = w ∙ rw (q, copies_by (n - 1) u b r x y, piece) refl;
+          text = w ∙ rw (copies_by (n - 1) u b r x y, piece) refl;
           next = v ∙ (past_near at m (omega arith) ∙ ap (past at) (more_counted m z));
         }
 
@@ -85,9 +85,9 @@ module _ (t : Text) (n : ℕ) (d d' : Text) (at i o : ℕ) (v : Spreading t n d 
         }
 
 -- behind the buffer's end
-pub spread_behind : (d : Text) (t : Text) (n at i m r : ℕ) → i ≡ at → length d ≤ i → m ≡ length (concat_map (spread n) (cuts t)) → r ≡ past at m →
+pub spread_behind : (d : Text) (t : Text) (n at m r : ℕ) → length d ≤ at → m ≡ length (concat_map (spread n) (cuts t)) → r ≡ past at m →
     Wrote d d at (concat_map (spread n) (cuts t)) r
-spread_behind d t n at i m r e h l q = record { text = sym (stored_behind d at (concat_map (spread n) (cuts t)) (omega arith)); next = q ∙ ap (past at) l }
+spread_behind d t n at m r h l q = record { text = sym (stored_behind d at (concat_map (spread n) (cuts t)) h); next = q ∙ ap (past at) l }
 
 -- the loop of `spread_length`: m bytes are counted of what stands before i, ten for one at most
 

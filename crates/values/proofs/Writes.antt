@@ -5,11 +5,10 @@ use mathlib.Core.Path.{◌≡◌, refl, sym, ap, ◌∙◌}
 use mathlib.Core.List.{[], ◌∷◌, ◌++◌}
 use lib.ListN.{length, set}
 use borrow.Author.Tests.{lt-ltb, le-ltb}
-use Rattle.text.specs.Bytes.{Text, part}
+use Rattle.text.specs.Bytes.{Text}
 use Rattle.output.specs.Store.{stored, farthest, past, Wrote}
 use Rattle.output.proofs.Stores.{length_stored, stored_behind, wrote_none, wrote_then}
 use Rattle.rules.specs.Headings.{decimal}
-use Rattle.rules.proofs.Pieces.{tail_whole}
 
 -- a position within the buffer
 pub past_near : (at n : ℕ) → at + n ≤ farthest → at + n ≡ past at n
@@ -17,20 +16,12 @@ unfolding past
 past_near at n h = omega arith
 
 -- one byte, with room for it and without
-pub wrote_byte : (d : Text) (at i b r : ℕ) → i ≡ at → r ≡ past at 1 → Wrote d (set d i b) at (b ∷ []) r
+pub wrote_byte : (d : Text) (at b r : ℕ) → r ≡ past at 1 → Wrote d (set d at b) at (b ∷ []) r
 unfolding stored
-wrote_byte d at i b r e q = record { text = rw e; next = q }
+wrote_byte d at b r q = record { text = refl; next = q }
 
-pub byte_behind : (d : Text) (at i b r : ℕ) → i ≡ at → length d ≤ i → r ≡ past at 1 → Wrote d d at (b ∷ []) r
-byte_behind d at i b r e h q = record { text = sym (stored_behind d at (b ∷ []) (omega arith)); next = q }
-
--- a whole text
-pub part_whole : (t : Text) → part t 0 (length t) ≡ t
-unfolding part
-part_whole t = tail_whole t 0 (omega arith)
-
-pub wrote_whole : (d d' : Text) (at : ℕ) (t : Text) (r : ℕ) → Wrote d d' at (part t 0 (length t)) r → Wrote d d' at t r
-wrote_whole d d' at t r w = rw (part_whole t) at w
+pub byte_behind : (d : Text) (at b r : ℕ) → length d ≤ at → r ≡ past at 1 → Wrote d d at (b ∷ []) r
+byte_behind d at b r h q = record { text = sym (stored_behind d at (b ∷ []) h); next = q }
 
 -- a number below 100
 pub wrote_digit : (d d' : Text) (at k r : ℕ) → k < 10 → Wrote d d' at ((48 + k) ∷ []) r → Wrote d d' at (decimal k) r

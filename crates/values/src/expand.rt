@@ -76,7 +76,7 @@ impl<'a> Values<'a> {
         match p {
             Piece::Byte(b) => write::put_byte(b, out, at),
             Piece::Number => write::put_number(k, out, at),
-            Piece::Bare(v) => write::put_text(self.value_of(v, k), out, at),
+            Piece::Bare(v) => output::put(self.value_of(v, k), out, at),
             Piece::Parens(v) => put_parens(self.value_of(v, k), out, at),
             Piece::Prefixed { sign, variable } => put_prefixed(
                 sign,
@@ -95,6 +95,7 @@ impl<'a> Values<'a> {
     {
         let mut i: usize = 0;
         let mut o: u32 = 0;
+        // a step is as long as the item
         while i < w.len() {
             let b = w[i];
             i += 1;
@@ -104,8 +105,8 @@ impl<'a> Values<'a> {
             }
             let p = rules::percent::piece_after(w, i);
             o = self.put_piece(p, k, scratch, o);
-            i += rules::percent::piece_length(p);
+            i += p.length();
         }
-        output::wide(o)
+        o as usize
     }
 }

@@ -15,7 +15,7 @@ pub fn put_prefixed(b: u8, t: &[u8], out: &mut [u8], at: u32) -> u32
         return at;
     }
     let start = write::put_byte(b, out, at);
-    write::put_text(t, out, start)
+    output::put(t, out, start)
 }
 
 // Writes a value in parentheses, or nothing where it is empty.

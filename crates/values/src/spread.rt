@@ -30,15 +30,15 @@ fn put_numbered(t: &[u8], k: usize, out: &mut [u8], at: u32) -> u32
     requires { (k < 10) × (length out.old ≤ farthest) × (at ≤ farthest) }
     ensures { Wrote out.old out.new at (t.now ++ (58 ∷ decimal k)) result }
 {
-    let start = output::wide(at);
+    let start = at as usize;
     let n = t.len();
     if start + n + 2 <= out.len() {
-        output::copy(t, 0, n, out, start);
+        output::store(t, out, start);
         out[start + n] = b':';
         out[start + n + 1] = b'0' + k as u8;
         return at + (n + 2) as u32;
     }
-    let colon = write::put_text(t, out, at);
+    let colon = output::put(t, out, at);
     let number = write::put_byte(b':', out, colon);
     write::put_number(k, out, number)
 }
@@ -85,7 +85,7 @@ impl<'a> Copies<'a> {
         let mut o = at;
         for k in 2..=n {
             out[o] = self.sign;
-            output::copy(rest, 0, rest.len(), out, o + 1);
+            output::store(rest, out, o + 1);
             let colon = o + 1 + rest.len();
             out[colon] = b':';
             out[colon + 1] = b'0' + k as u8;
@@ -181,7 +181,7 @@ fn put_more(t: &[u8], from: usize, c: usize, n: usize, out: &mut [u8], at: u32) 
     }
     let copies = Copies::of(&t[piece_start(t, from, c)..c]);
     let length = copies.length(n);
-    let start = output::wide(at);
+    let start = at as usize;
     if start + length <= out.len() {
         copies.write(n, out, start);
         return at + length as u32;
@@ -222,9 +222,9 @@ pub fn put_spread(t: &[u8], n: usize, out: &mut [u8], at: u32) -> u32
 {
     // too short for `:all`
     if t.len() < 4 {
-        return write::put_text(t, out, at);
+        return output::put(t, out, at);
     }
-    if out.len() <= output::wide(at) {
+    if out.len() <= at as usize {
         return output::past(at, spread_length(t, n));
     }
     let mut i: usize = 0;
@@ -234,5 +234,5 @@ pub fn put_spread(t: &[u8], n: usize, out: &mut [u8], at: u32) -> u32
         o = put_more(t, i, c, n, out, behind_first);
         i = c + 4;
     }
-    output::put_part(t, i, t.len(), out, o)
+    output::put(&t[i..], out, o)
 }

@@ -6,19 +6,13 @@ ghost use Rattle.rules.specs.Headings.{decimal};
 pub fn put_byte(b: u8, out: &mut [u8], at: u32) -> u32
     ensures { Wrote out.old out.new at (b ∷ []) result }
 {
-    let i = output::wide(at);
+    let i = at as usize;
     if i < out.len() {
         out[i] = b;
         // a return of its own: where the compiler knows how long `out` is, no position is looked at
         return output::past(at, 1);
     }
     output::past(at, 1)
-}
-
-pub fn put_text(t: &[u8], out: &mut [u8], at: u32) -> u32
-    ensures { Wrote out.old out.new at t.now result }
-{
-    output::put_part(t, 0, t.len(), out, at)
 }
 
 // Writes a number below 100 in decimal.

@@ -1,21 +1,16 @@
 -- Lengths written into a sheet one by one, k of them, and ten read from it one by one.
 use Prim.Native.Nat.{ℕ, zero, suc, ◌+◌, ◌*◌, ◌≤◌, ◌<◌}
 use native.Mathlib.Nat.{add-zero}
-use native.Mathlib.Numerals.{add-one, towards_suc}
+use native.Mathlib.Numerals.{add-one}
 use native.Mathlib.Omega.{arith}
 use mathlib.Core.Path.{◌≡◌, refl, sym, ap, ◌∙◌}
 use mathlib.Core.List.{List, [], ◌∷◌, ◌++◌, append_assoc, append-nil}
 use lib.ListN.{length, take, drop, set, get_or}
-use lib.Seq.{take-suc, take-suc-set, take_all, take_at, drop-append-add, drop-drop, sets-eq, length-take-le}
+use lib.Seq.{take-suc, take-suc-set, take_all, take_at, drop-append-add, drop-drop, length-take-le}
 use Rattle.text.specs.Bytes.{Text, concat_map}
 use Rattle.text.proofs.Lists.{concat_append}
 use Rattle.xkbrules.specs.Sheet.{little_endian, number_at, numbers_from, lengths_in}
 use Rattle.xkbrules.proofs.Sheet.{written_length}
-
--- four bytes stored one after the other
-pub four_stored : (s : Text) (at a b c d : ℕ) → at + 4 ≤ length s →
-    set (set (set (set s at a) (at + 1) b) (at + 2) c) (at + 3) d ≡ take at s ++ ((a ∷ b ∷ c ∷ d ∷ []) ++ drop (at + 4) s)
-four_stored s at a b c d h = simp towards_suc (simp (append_assoc, towards_suc) at (sets-eq (a ∷ b ∷ c ∷ d ∷ []) s at h))
 
 -- a sheet that held s, after the first i numbers
 unfoldable pub put_to : Text → List ℕ → ℕ → Text

@@ -1,7 +1,5 @@
 use mathlib.Core.Path.{refl, ◌∙◌}
 use native.Mathlib.Omega.{arith}
-use Prim.Native.Nat.{◌<◌}
-use Rattle.std.proofs.lemmas.List.{length-take, length-take-le, get_or-take}
 use Rattle.text.proofs.Sources.{found, stopped}
 use Rattle.firing.proofs.ValueFires.{words_start, word_fits, words_more, words_fired, words_none, fires_again}
 use Rattle.firing.proofs.rule.fire_words.Goals as goal
@@ -21,12 +19,9 @@ fire_value-next-requires c =
 
 pub loop-component-preserved : goal.loop-component-preserved
 loop-component-preserved c =
-    let v = c.loop-component.invariant in
-    let t = c.loop-component-test.true in
-    let h : c.loop-component.component-index < c.args.right.now.count = omega (arith, length-take c.args.right.now.count c.args.right.now.components) in
-    let f = rw (c.word-word.ensures, get_or-take c.args.right.now.count c.args.right.now.components c.loop-component.component-index 0 h) at c.fire_value-next.ensures.0 in (
-      words_more _ _ _ _ _ _ _ _ _ _ _ _ _ v.0 _ _ _ _ (found _ _ _ _ _ _ _ _ c.in-Found.is c.word_at.ensures) (omega arith)
-          (omega (arith, c.requires.1.all, c.requires.1.few)) _ _ f,
+    let v = c.loop-component.invariant in (
+      words_more _ _ _ _ _ _ _ _ _ _ _ _ _ v.0 _ _ _ _ (found _ _ _ _ _ _ _ _ c.in-Found.is c.word_at.ensures) c.loop-component-test.true _ _
+          (rw c.word-word.ensures at c.fire_value-next.ensures.0),
       c.fire_value-next.ensures.1 ∙ v.1,
       c.fire_value-next.auto.buf ∙ v.2,
     )
@@ -40,4 +35,4 @@ pub returns : goal.returns
 returns c =
     let v = c.loop-component.invariant in
     let t = c.loop-component-test.false in
-    (words_fired _ _ _ _ _ _ _ _ _ _ _ _ _ v.0 (omega (arith, c.requires.1.all, c.requires.1.few, length-take-le c.args.right.now.count c.args.right.now.components)), v.1)
+    (words_fired _ _ _ _ _ _ _ _ _ _ _ _ _ v.0 (omega (arith, c.requires.1.all, c.loop-component-test.false)), v.1)

@@ -19,10 +19,10 @@ returns-else-set c =
 
 pub returns-in_err-read_heading-in-Heading : goal.returns-in_err-read_heading-in-Heading
 returns-in_err-read_heading-in-Heading c =
+    let e : c.from_residual-in_err-read_heading-in-Heading.result ≡ Err c.in_err-read_heading-in-Heading.field-0.0 = search rules in
     let g = sought_is _ _ _ _ _ _ _ _ c.in_ok-place.was c.in-Heading.is c.seek_rule.ensures in
     let v = c.close_set.ensures in
     let u = heading_sound _ _ _ _ _ c.requires _ _ g _ _ _ v.scratch v.fired in
-    let e : c.from_residual-in_err-read_heading-in-Heading.result ≡ Err c.in_err-read_heading-in-Heading.field-0.0 = search rules in
     let a = heading_as _ _ _ c.args.self.now c.close_set.new.self _ _ _ v.is (rw c.in_err-read_heading-in-Heading.was at c.read_heading.ensures) in
     rw e (step_heading _ _ _ _ _ c.requires _ _ g _ _ _ v.scratch v.fired _ _ _ (a.steps _ _ u))
 

@@ -17,15 +17,15 @@ put_piece-o-requires c =
 
 pub overflow_add-i-in-loop-i : goal.overflow_add-i-in-loop-i
 overflow_add-i-in-loop-i c =
-    omega (arith, item_high c.args.w.now c.loop-i.i c.loop-i-test.true _ c.piece_after-p.ensures _ c.piece_length-i.ensures)
+    omega (arith, item_high c.args.w.now c.loop-i.i c.loop-i-test.true _ c.piece_after-p.ensures _ c.length-i.ensures)
 
 pub loop-i-preserved : goal.loop-i-preserved
 loop-i-preserved c =
-    going_item _ _ _ _ _ _ _ c.loop-i.invariant c.loop-i-test.true _ _ c.if-b-ne37.false _ c.piece_after-p.ensures c.put_piece-o.ensures _ c.piece_length-i.ensures
+    going_item _ _ _ _ _ _ _ c.loop-i.invariant c.loop-i-test.true _ _ c.if-b-ne37.false _ c.piece_after-p.ensures c.put_piece-o.ensures _ c.length-i.ensures
 
 pub shape_of-scratch : goal.shape_of-scratch
 shape_of-scratch c = c.loop-i.invariant.left.long
 
 pub returns : goal.returns
 returns c =
-    going_end _ (short_placed _ _ c.args.self.now.placed _) _ _ _ _ _ _ _ c.loop-i.invariant c.loop-i-test.false c.requires.1 c.requires.2 c.wide.ensures.0
+    going_end _ (short_placed _ _ c.args.self.now.placed _) _ _ _ _ _ _ c.loop-i.invariant c.loop-i-test.false c.requires.1 c.requires.2

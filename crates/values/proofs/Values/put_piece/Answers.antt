@@ -13,7 +13,7 @@ returns-in-Number c = rw c.in-Number.is c.put_number.ensures
 
 pub returns-in-Bare : goal.returns-in-Bare
 unfolding piece_text
-returns-in-Bare c = rw (c.in-Bare.is, ← c.value_of.ensures) c.put_text.ensures
+returns-in-Bare c = rw (c.in-Bare.is, ← c.value_of.ensures) c.put.ensures
 
 pub returns-in-Parens : goal.returns-in-Parens
 unfolding piece_text enclosed

@@ -9,4 +9,4 @@ returns-then-is_empty c = rw (empty_is _ _ c.if-is_empty.ensures) (wrote_none _ 
 
 pub returns : goal.returns
 unfolding prefixed
-returns c = rw (empty_is _ _ c.if-is_empty.ensures) (wrote_then _ _ _ _ _ _ _ _ c.requires.0 c.put_byte-start.ensures c.put_text.ensures)
+returns c = rw (empty_is _ _ c.if-is_empty.ensures) (wrote_then _ _ _ _ _ _ _ _ c.requires.0 c.put_byte-start.ensures c.put.ensures)

@@ -20,11 +20,11 @@ length-length-requires c =
 
 pub overflow_add-start : goal.overflow_add-start
 overflow_add-start c =
-    omega (arith, c.wide-start.ensures.1, c.length-length.ensures, few_copies _ _ _ c.requires.2 c.requires.3 (behind_low c.args.t.now c.piece_start.result c.args.c _ c.requires.4 c.of-copies.ensures.1))
+    omega (arith, c.length-length.ensures, few_copies _ _ _ c.requires.2 c.requires.3 (behind_low c.args.t.now c.piece_start.result c.args.c _ c.requires.4 c.of-copies.ensures.1))
 
 pub returns-then-start-length : goal.returns-then-start-length
 returns-then-start-length c =
-    more_written _ _ _ _ _ c.piece_start.ensures _ c.requires.2 c.requires.3 c.of-copies.ensures.1 _ _ _ _ _ _ _ c.of-copies.ensures.0 c.wide-start.ensures.0 c.write.ensures c.length-length.ensures c.if-start-length.true c.requires.5 refl
+    more_written _ _ _ _ _ c.piece_start.ensures _ c.requires.2 c.requires.3 c.of-copies.ensures.1 _ _ _ _ _ _ c.of-copies.ensures.0 c.write.ensures c.length-length.ensures c.if-start-length.true c.requires.5 refl
 
 pub returns : goal.returns
 returns c =

@@ -8,7 +8,7 @@ loop-k-init c = storing_start _ _ _ _ _ c.requires.0 c.requires.2
 
 pub loop-k-preserved : goal.loop-k-preserved
 loop-k-preserved c =
-    storing_more _ _ _ _ _ _ _ _ c.loop-k.invariant _ _ (omega arith) c.requires.1 c.args.self.now.is_sign (copy_written _ _ _ _ _ _ _ c.loop-k.invariant.some (omega arith) c.args.self.now.is_sign c.copy.ensures refl) (omega arith)
+    storing_more _ _ _ _ _ _ _ _ c.loop-k.invariant _ _ (omega arith) c.requires.1 c.args.self.now.is_sign (copy_written _ _ _ _ _ _ _ c.loop-k.invariant.some (omega arith) c.args.self.now.is_sign c.store.ensures refl) (omega arith)
 
 pub returns : goal.returns
 returns c = storing_end _ _ _ _ _ _ _ _ c.loop-k.invariant (omega arith)
@@ -16,4 +16,4 @@ returns c = storing_end _ _ _ _ _ _ _ _ c.loop-k.invariant (omega arith)
 pub returns-2 : goal.returns-2
 returns-2 c =
     storing_last _ _ _ _ _ _ _ _ c.loop-k.invariant _ (omega arith) (omega arith) c.requires.1 c.args.self.now.is_sign
-    (copy_written _ _ _ _ _ _ _ c.loop-k.invariant.some (omega arith) c.args.self.now.is_sign c.copy.ensures refl)
+    (copy_written _ _ _ _ _ _ _ c.loop-k.invariant.some (omega arith) c.args.self.now.is_sign c.store.ensures refl)
