@@ -1,5 +1,6 @@
 -- What the readers of a source promise, taken apart for those who call them.
 use Prim.Native.Nat.{ℕ, ◌+◌, ◌≤◌, ◌<◌}
+use native.Mathlib.Omega.{arith}
 use mathlib.Core.Path.{◌≡◌, sym, ◌∙◌}
 use mathlib.Core.List.{List}
 use mathlib.Core.Bool.{false}
@@ -12,11 +13,18 @@ use Rattle.text.specs.declared.source.Next.{Next}
 use Rattle.text.specs.declared.source.Next.TheVariants.{Found, Stop}
 use Rattle.text.specs.Kinds.{kind_of}
 use Rattle.text.specs.Told.{fault_number}
-use Rattle.text.specs.Reading.{FoundWord, NoWord, PlainFound, ByteWord as ByteFound, Opens}
+use Rattle.text.specs.Reading.{FoundWord, NoWord, Between, PlainFound, ByteWord as ByteFound, Opens}
 use Rattle.text.specs.Sources.{Skipped, NextWord, PlainWord, ValueWord, ByteWord, feed_end}
 use Rattle.text.proofs.ByteKinds.{not_bad, meant}
 use Rattle.text.proofs.Feeds.{FeedAt, feed_some as feed_is}
 use Rattle.text.proofs.Readers.{opened_skip, opened_onset}
+
+-- blanks and joins, then the next word
+pub between_then : (s : List ℕ) (from n i m : ℕ) (r : Next) → Between s from n i m → NextWord s i m r → NextWord s from n r
+between_then s from n i m (Found a e m' f) v w =
+    record { low = omega (arith, v.low, w.low); some = w.some; high = w.high; few = w.few; grow = omega (arith, v.grow, w.grow); text = v.text ∙ w.text; onto = v.onto ∙ w.onto; fault = w.fault }
+between_then s from n i m (Stop p m') v w =
+    record { low = omega (arith, v.low, w.low); onwards = omega (arith, v.low, w.onwards); high = w.high; few = w.few; grow = omega (arith, v.grow, w.grow); none = v.text ∙ w.none; onto = v.onto ∙ w.onto }
 
 pub found : (s : List ℕ) (i n : ℕ) (r : Next) (a e m : ℕ) (f : Option Fault) → r ≡ Found a e m f → NextWord s i n r → FoundWord s i n a e m (fault_number f)
 found s i n r a e m f q h = rw q at h

@@ -1,10 +1,12 @@
 -- What is printed, piece by piece: of a text a page takes what it has room for.
-use Prim.Native.Nat.{ℕ, zero, suc, ◌+◌, ◌*◌, ◌-◌, ◌^◌, ◌≤◌, ◌<◌, min}
+use Prim.Native.Nat.{ℕ, zero, suc, ◌+◌, ◌*◌, ◌-◌, ◌/◌, ◌%◌, ◌^◌, ◌≤◌, ◌<◌, min}
 use native.Mathlib.Numerals.{add-one}
 use native.Mathlib.Nat.{add-zero, min_comm}
 use native.Mathlib.Omega.{arith}
 use mathlib.Core.Path.{◌≡◌, refl, sym, ap, ◌∙◌}
 use mathlib.Core.List.{List, [], ◌∷◌, ◌++◌, map, append-nil, append_assoc}
+use mathlib.Core.Bool.{Bool, true, false, cond}
+use lib.Dec.{ltb}
 use lib.ListN.{length, take, drop, get_or, length-append, length-map, length-take}
 use lib.Seq.{take-suc, take_all, take-append-add}
 use borrow.Author.Tests.{lt-ltb, le-ltb}
@@ -28,6 +30,15 @@ appends = record { one = λ k n h. rw (lt-ltb n 10 h); more = λ k n h. rw (le-l
 pub decimal_is : (n : ℕ) → n < 2 ^ 64 → in_decimal n ≡ decimal n
 unfolding in_decimal
 decimal_is n h = decimal_from_appends digits appends (suc n) n h (omega (arith, length-decimal-le_succ n h))
+
+pub digits_few : (n k : ℕ) → length (digits n k) ≤ n
+unfolding digits
+digits_few zero k = omega arith
+digits_few (suc n) k = go (ltb k 10) (digits_few n (k / 10))
+  where
+    go : (t : Bool) → length (digits n (k / 10)) ≤ n → length (cond t ((48 + k) ∷ []) (digits n (k / 10) ++ ((48 + k % 10) ∷ []))) ≤ suc n
+    go true h = omega arith
+    go false h = simp length-append (omega (arith, h))
 
 -- what a page takes
 
