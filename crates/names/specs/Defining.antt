@@ -26,6 +26,7 @@ pub record Defines (w : Text) (row : Row) (names names' : Names) (r : Result (Un
   pub kept : IsErr r → (names' ≡ names) × (r ≡ Err BadGroup)
   pub few : IsOk r → names.groups < most_groups
   pub number : IsOk r → names'.groups ≡ names.groups + 1
+  pub count : IsOk r → names'.table.list.count ≡ names.table.list.count + 1
   pub text : IsOk r → text_of names'.table.list ≡ text_of names.table.list ++ w
   pub values : (names'.bounds ≡ names.bounds) × (names'.layouts ≡ names.layouts)
   pub refusal : (x : Texts) (gs : Groups) → Ready x gs names → is_err r ≡ defined gs (rest w) || leb most_groups (length gs)
