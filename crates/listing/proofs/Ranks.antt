@@ -1,9 +1,14 @@
--- A number put in at its rank.
-use Rattle.std.proofs.Common.{◌≡◌, ℕ, suc, ◌+◌, ◌-◌, ◌≤◌, ◌<◌, List, ◌∷◌, ◌++◌, length, get_or, set, take, drop, add-one, add-zero, refl, sym, ap, ◌∙◌, arith}
+-- A number put in at its rank, and the rank of a name that is not listed.
+use Rattle.std.proofs.Common.{◌≡◌, ℕ, zero, suc, ◌+◌, ◌-◌, ◌≤◌, ◌<◌, Bool, true, false, cond, ltb, List, ◌∷◌, ◌++◌, length, get_or, set, take, drop, add-one, add-zero, refl, sym, ap, ◌∙◌, arith}
+use Rattle.std.specs.Ordering.{ordering_reverse, is_lt}
 use Rattle.std.proofs.lemmas.List.{take_more, take_more_set, take_all, take-take, drop-drop, drop-set-lt, length-set, length-drop, length-take-le, get_or-take, get_or-drop, get_or_append_left}
 use Rattle.std.proofs.Math.Seq.{get_or-append_right}
+use borrow.Author.Tests.{ltb-true, ltb-false}
 use borrow.Rule.Slice.PartMut.{mid_of, put_mid}
-use Rattle.listing.specs.Names.{with_rank}
+use Rattle.text.specs.Bytes.{Text}
+use Rattle.text.specs.declared.Span.{Span}
+use Rattle.listing.specs.Names.{order, ranked_at, rank_of, with_rank, Gap}
+use Rattle.listing.proofs.Orders.{order_total, less_is}
 
 -- a number carried along a list: each place takes the one before it
 pub record Carried (n : ℕ) (xs ys : List ℕ) (k c : ℕ) : Type 0 where
@@ -69,3 +74,23 @@ module _ (ranks : List ℕ) (i n : ℕ) (a : i ≤ n) (b : n < length ranks) whe
       ∙ (get_or_append_left (take (n - i) (drop i ranks)) back 0 (j - i) (omega (arith, size))
       ∙ (get_or-take (n - i) (drop i ranks) (j - i) 0 (omega arith)
       ∙ (get_or-drop i ranks (j - i) 0 ∙ ap (λ (k : ℕ). get_or ranks k 0) (omega arith)))))
+
+-- the rank of a name that is not listed
+module _ (s : Text) (spans : List Span) (ranks : List ℕ) (w : Text) (i : ℕ) (below : (j : ℕ) → j < i → is_lt (order (ranked_at s spans ranks j) w) ≡ true) where
+  rank_is : (n : ℕ) → i ≤ n → ((j : ℕ) → i ≤ j → j < n → is_lt (order (ranked_at s spans ranks j) w) ≡ false) → i ≡ rank_of s spans ranks n w
+  unfolding rank_of
+  rank_is zero a above = omega arith
+  rank_is (suc n) a above = by (ltb i (suc n)) refl (λ l. rank_is n l (λ j b c. above j b (omega arith)))
+    where
+      by : (u : Bool) → ltb i (suc n) ≡ u → (i ≤ n → i ≡ rank_of s spans ranks n w) → i ≡ cond (is_lt (order (ranked_at s spans ranks n) w)) (suc n) (rank_of s spans ranks n w)
+      by true q f =
+          let l = ltb-true i (suc n) q in
+          rw (above n (omega arith) (omega arith)) (f (omega arith))
+      by false q f =
+          let l = ltb-false i (suc n) q in
+          rw (below n (omega arith)) (omega arith)
+
+pub rank_gap : (s : Text) (spans : List Span) (ranks : List ℕ) (n : ℕ) (w : Text) (i : ℕ) → Gap s spans ranks n w i → i ≡ rank_of s spans ranks n w
+rank_gap s spans ranks n w i h =
+    rank_is s spans ranks w i h.below n h.few
+    (λ j a b. ap is_lt (order_total.antisymm (ranked_at s spans ranks j) w ∙ ap ordering_reverse (sym (less_is _ (h.above j a b)))))

@@ -5,7 +5,7 @@ use Rattle.listing.specs.Names.{most_names, key_of, with_rank}
 use Rattle.listing.specs.Lists.{text_of, bytes_at}
 use Rattle.listing.proofs.Finding.{part_front}
 use Rattle.listing.proofs.Adding.{adds_none_full, adds_none_again, new_by_gap, roomed_more, named_more, names_more}
-use Rattle.listing.proofs.Ranks.{ranks_put}
+use Rattle.listing.proofs.Ranks.{ranks_put, rank_gap}
 use Rattle.listing.proofs.names.Listing.add.Goals.{After-put_first}
 use Rattle.listing.proofs.names.Listing.add.Goals as goal
 
@@ -41,10 +41,13 @@ returns c =
     let few : l.count < most_names = omega (arith, l.named.few) in
     let high : c.args.span.end ≤ length (text_of l) = omega (arith, l.long) in
     let new = new_by_gap l c.args.span _ c.in_ok-i.ensures few in
+    let c' = goal.at.returns c in
     record {
       result = rw new;
       count = rw new;
       spans = rw new;
+      keys = rw (new, kept c'.After-put_first) refl;
+      ranks = rw (new, put c'.After-put_first) (ap (λ i. with_rank l.ranks i l.count) (rank_gap _ _ _ _ _ _ c.in_ok-i.ensures));
       names = rw new (names_more _ _ _ _ _ l.named few _ high _ c.in_ok-i.ensures (omega arith) (omega arith) (omega arith));
       text = (refl, refl);
     }

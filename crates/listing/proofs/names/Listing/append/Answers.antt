@@ -20,7 +20,10 @@ returns c =
       place = refl;
       used = refl;
       text = e;
+      room = c.store.ensures;
       names = rw e (names_longer _ _ _ _ _ _ l.roomed l.named);
       spans = refl;
+      keys = refl;
+      ranks = refl;
       count = refl;
     }
