@@ -1,11 +1,9 @@
 -- The heading of a set: one law for each way it is judged.
 use Prim.Native.Nat.{ℕ, ◌+◌, ◌≤◌}
 use native.Mathlib.Omega.{arith}
-use mathlib.Core.Path.{◌≡◌, refl, sym, ap, ◌∙◌}
+use mathlib.Core.Path.{◌≡◌, refl, sym, ◌∙◌}
 use mathlib.Core.List.{List, [], ◌∷◌, map}
-use mathlib.Core.Bool.{Bool, true, false, not, ◌&&◌}
-use lib.Dec.{eqb}
-use Rattle.std.specs.Cmp.Lexicographic.{pointwise}
+use mathlib.Core.Bool.{true, false, not}
 use lib.ListN.{length, get_or, drop, length-append}
 use borrow.Author.Tests.{not-true}
 use Rattle.std.specs.Prelude.{Option, Some, None, Result}
@@ -13,7 +11,7 @@ use Rattle.std.specs.Option.{ok_or}
 use Rattle.text.specs.declared.Span.{Span}
 use Rattle.text.specs.declared.faults.Fault.{Fault}
 use Rattle.text.specs.declared.faults.Fault.TheVariants.{BadHeading}
-use Rattle.text.specs.Bytes.{Text, Words, same, empty, all_of, concat_map}
+use Rattle.text.specs.Bytes.{Text, Words, empty, all_of, concat_map}
 use Rattle.text.specs.Reading.{left}
 use Rattle.text.proofs.Lists.{no, and_both}
 use Rattle.rules.specs.declared.Item.{Item}
@@ -31,17 +29,6 @@ use Rattle.rules.proofs.HeldHeadings.{heading_held, sized_held}
 use Rattle.judging.specs.Sets.{SetOf, SetLineOf}
 use Rattle.judging.proofs.Indexed.{index_from_one}
 use Rattle.judging.proofs.RuleLines.{split_words, split_passed}
-
--- the library's test of two slices
-pointwise_same : (a b : Text) → pointwise eqb a b ≡ same a b
-unfolding same
-pointwise_same [] [] = refl
-pointwise_same [] (c ∷ t) = refl
-pointwise_same (b ∷ s) [] = refl
-pointwise_same (b ∷ s) (c ∷ t) = ap (λ (r : Bool). eqb b c && r) (pointwise_same s t)
-
-pub same_told : (r : Bool) (w y a b : Text) → r ≡ pointwise eqb w y → w ≡ a → y ≡ b → same a b ≡ r
-same_told r w y a b e f g = sym (e ∙ rw (f, g) (pointwise_same a b))
 
 -- another way to write the same line
 pub set_as : (e e' : Entry) (r : Result SetHeading Fault) → e ≡ e' → SetOf e' r → SetOf e r
