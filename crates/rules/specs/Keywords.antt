@@ -55,7 +55,9 @@ pub record Before (w : Text) (i : Option Index) (t : Text) : Type 0 where
 -- brackets
 unfoldable pub Exactly : Meaning → Text → Text → Type 0
 Exactly (left m) w t = Just (left_item t ≡ Some m) (t ≡ w)
-Exactly (left_before m) w t = ((i : Index) → Just (left_item t ≡ Some (m i)) (Before w (Some i) t)) × Just ((left_item t ≡ None) × (take (length w) t ≡ w)) (Before w None t)
+Exactly (left_before m) w t =
+    ((i : Index) → Just (left_item t ≡ Some (m i)) (Before w (Some i) t)) ×
+    Just ((left_item t ≡ None) × (take (length w) t ≡ w)) (Before w None t)
 Exactly (right c) w t = Just (component_of t ≡ c) (t ≡ w)
 Exactly (in_brackets i) w t = Just (index_of t ≡ Some i) (t ≡ bytes "[" ++ (w ++ bytes "]"))
 
