@@ -121,7 +121,7 @@ pub const NO_HEADING: Present = Present {
 // The heading of a set: its columns, its index, and its components by their numbers.
 #[derive(Clone, Copy)]
 pub struct SetHeading {
-    pub columns: Listing<Column, 4>,
+    pub columns: Listing<Column, 5>,
     pub index: Index,
     pub components: Listing<usize, 5>,
 }
