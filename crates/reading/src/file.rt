@@ -28,7 +28,7 @@ fn no_set() -> SetHeading
     SetHeading {
         columns: Listing {
             count: 1,
-            items: [Column::Model; 4],
+            items: [Column::Model; 5],
         },
         index: Index::Absent,
         components: Listing {

@@ -8,14 +8,13 @@ use lib.ListN.{length, get_or}
 use Rattle.std.specs.Prelude.{Option, Some}
 use Rattle.text.specs.declared.Span.{Span}
 use Rattle.text.specs.declared.faults.Fault.{Fault}
-use Rattle.text.specs.declared.kinds.Kind.TheVariants.{Plain}
 use Rattle.text.specs.declared.source.Next.{Next}
 use Rattle.text.specs.declared.source.Next.TheVariants.{Found, Stop}
-use Rattle.text.specs.Kinds.{kind_of}
+use Rattle.text.specs.Words.{bad_byte}
 use Rattle.text.specs.Told.{fault_number}
 use Rattle.text.specs.Reading.{FoundWord, NoWord, Between, PlainFound, ByteWord as ByteFound, Opens}
 use Rattle.text.specs.Sources.{Skipped, NextWord, PlainWord, ValueWord, ByteWord, feed_end}
-use Rattle.text.proofs.ByteKinds.{not_bad, meant}
+use Rattle.text.proofs.ByteKinds.{not_bad}
 use Rattle.text.proofs.Feeds.{FeedAt, feed_some as feed_is}
 use Rattle.text.proofs.Readers.{opened_skip, opened_onset}
 
@@ -45,8 +44,8 @@ byte_found s f i b r e q h = rw q at h
 pub feed_some : (s : List ℕ) (i : ℕ) (r : Option ℕ) (z : ℕ) → r ≡ feed_end s i → r ≡ Some z → FeedAt s i z
 feed_some s i r z h e = feed_is s i z (sym h ∙ e)
 
--- a line that begins with a plain byte
-pub opened_plain : (s : List ℕ) (at n i : ℕ) → n ≤ at + 1 → Skipped s at i → i < length s → (get_or s i 0 ≡ 33 → ⊥) → kind_of (get_or s i 0) ≡ Plain → Opens s at n false i n
+-- a line that begins with a byte of words
+pub opened_plain : (s : List ℕ) (at n i : ℕ) → n ≤ at + 1 → Skipped s at i → i < length s → (get_or s i 0 ≡ 33 → ⊥) → bad_byte (get_or s i 0) ≡ false → Opens s at n false i n
 opened_plain s at n i y k l x z =
     opened_onset s at n i n (opened_skip s at n i y k.blanks) l
-    (record { blank = k.stop l; bang = x; joins = λ e. absurd ((not_bad _ (meant _ Plain z).0).slash e) })
+    (record { blank = k.stop l; bang = x; joins = λ e. absurd ((not_bad _ z).slash e) })
