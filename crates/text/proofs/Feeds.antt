@@ -264,17 +264,18 @@ slash_return s i e f =
     let t : i + 2 - 2 ≡ i = omega arith in
     rw (lt-ltb 0 (i + 2) p, lt-ltb 1 (i + 2) r, q, t, f, e) refl
 
-pub slash_join : (s : List ℕ) (i z : ℕ) → JoinAt s i z → slash_before s (z - 1) ≡ true
+pub slash_join : (s : List ℕ) (i z : ℕ) → JoinAt s i z → (slash_before s (z - 1) ≡ true) × (get_or s (z - 1) 0 ≡ 10)
 slash_join s i z v =
     ⊎_elim
     (λ (w : (z ≡ i + 1 + 1) × (get_or s (i + 1) 0 ≡ 10)).
     let e = w.0 in
     let q : z - 1 ≡ i + 1 = omega arith in
-    rw q (slash_feed s i v.slash))
+    rw q (slash_feed s i v.slash, w.1))
     (λ (w : (z ≡ i + 1 + 2) × ((get_or s (i + 1) 0 ≡ 13) × (get_or s (i + 1 + 1) 0 ≡ 10))).
     let e = w.0 in
     let q : z - 1 ≡ i + 2 = omega arith in
-    rw q (slash_return s i v.slash w.1.0))
+    let r : i + 1 + 1 ≡ i + 2 = omega arith in
+    rw q (slash_return s i v.slash w.1.0, rw r at w.1.1))
     v.feed.cases
 
 -- as in a part of the file, so in the file

@@ -656,14 +656,14 @@ joined_high s f i z v h u =
     omega (arith, w.0, fence_more s f (i + 1) v k (differ _ 13 10 refl w.1.0)))
     u.feed.cases
 
-fence_joined : (s : List ℕ) (f i z : ℕ) → Fenced s f → i < f → JoinAt s i z → z < f
+pub fence_joined : (s : List ℕ) (f i z : ℕ) → Fenced s f → i < f → JoinAt s i z → z < f
 fence_joined s f i z v h u = go (eqb z f) refl
   where
     go : (t : Bool) → eqb z f ≡ t → z < f
     go true q =
         let x = eqb-true z f q in
         let k : 0 < f = omega (arith, h) in
-        absurd (no (sym (v.free k) ∙ rw x at (slash_join s i z u)))
+        absurd (no (sym (v.free k) ∙ rw x at (slash_join s i z u).0))
     go false q = let x = eqb-false z f q in omega (arith, joined_high s f i z v h u)
 
 -- the loop of `next_word`

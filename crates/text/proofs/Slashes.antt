@@ -1,4 +1,4 @@
--- The backslash before a line end: the LF that it joins, and the first LF of a line, which ends it where none stands there.
+-- The first LF of a line, which ends it where no backslash stands before its line end.
 use Prim.Native.Nat.{ℕ, zero, suc, ◌+◌, ◌-◌, ◌≤◌, ◌<◌}
 use native.Mathlib.Omega.{arith}
 use mathlib.Core.Path.{◌≡◌, refl, sym, ap, ◌∙◌}
@@ -7,7 +7,7 @@ use mathlib.Core.Logic.{⊎_elim}
 use mathlib.Core.Bool.{Bool, true, false, cond}
 use lib.Dec.{eqb, ltb}
 use lib.ListN.{length, get_or, drop}
-use borrow.Author.Tests.{eqb-true, eqb-false, lt-ltb, ltb-true, ltb-false}
+use borrow.Author.Tests.{eqb-true, eqb-false, ltb-true, ltb-false}
 use Rattle.std.specs.Prelude.{Option, Some, None}
 use Rattle.text.specs.declared.Class.{Class}
 use Rattle.text.specs.declared.Class.TheVariants.{Blank, Join, Slashes, Bang, Other}
@@ -21,59 +21,7 @@ use Rattle.text.specs.Sources.{join_end}
 use Rattle.text.proofs.Lists.{no}
 use Rattle.text.proofs.Positions.{marks_at, step_other, step_feed, lines_char, lines_gap, lines_end}
 use Rattle.text.proofs.ByteKinds.{differ}
-use Rattle.text.proofs.Feeds.{JoinAt, join_some, join_no}
-use Rattle.text.proofs.Readers.{fence_more}
-
-slash_feed : (s : List ℕ) (i : ℕ) → get_or s i 0 ≡ 92 → slash_before s (i + 1) ≡ true
-unfolding slash_before
-slash_feed s i e =
-    let p : 0 < i + 1 = omega arith in
-    let q : i + 1 - 1 ≡ i = omega arith in
-    rw (lt-ltb 0 (i + 1) p, q, e) refl
-
-slash_return : (s : List ℕ) (i : ℕ) → get_or s i 0 ≡ 92 → get_or s (i + 1) 0 ≡ 13 → slash_before s (i + 2) ≡ true
-unfolding slash_before
-slash_return s i e f =
-    let p : 0 < i + 2 = omega arith in
-    let r : 1 < i + 2 = omega arith in
-    let q : i + 2 - 1 ≡ i + 1 = omega arith in
-    let t : i + 2 - 2 ≡ i = omega arith in
-    rw (lt-ltb 0 (i + 2) p, lt-ltb 1 (i + 2) r, q, t, f, e) refl
-
--- the LF that a backslash joins has it before its line end
-pub slash_join : (s : List ℕ) (i z : ℕ) → JoinAt s i z → (slash_before s (z - 1) ≡ true) × (get_or s (z - 1) 0 ≡ 10)
-slash_join s i z v =
-    ⊎_elim
-    (λ (w : (z ≡ i + 1 + 1) × (get_or s (i + 1) 0 ≡ 10)).
-    let e = w.0 in
-    let q : z - 1 ≡ i + 1 = omega arith in
-    rw q (slash_feed s i v.slash, w.1))
-    (λ (w : (z ≡ i + 1 + 2) × ((get_or s (i + 1) 0 ≡ 13) × (get_or s (i + 1 + 1) 0 ≡ 10))).
-    let e = w.0 in
-    let q : z - 1 ≡ i + 2 = omega arith in
-    let r : i + 1 + 1 ≡ i + 2 = omega arith in
-    rw q (slash_return s i v.slash w.1.0, rw r at w.1.1))
-    v.feed.cases
-
--- a line end that is joined stands before the fence
-joined_high : (s : List ℕ) (f i z : ℕ) → Fenced s f → i < f → JoinAt s i z → z ≤ f
-joined_high s f i z v h u =
-    let k : i + 1 < f = fence_more s f i v h (differ _ 92 10 refl u.slash) in
-    ⊎_elim
-    (λ (w : (z ≡ i + 1 + 1) × (get_or s (i + 1) 0 ≡ 10)). omega (arith, w.0))
-    (λ (w : (z ≡ i + 1 + 2) × ((get_or s (i + 1) 0 ≡ 13) × (get_or s (i + 1 + 1) 0 ≡ 10))).
-    omega (arith, w.0, fence_more s f (i + 1) v k (differ _ 13 10 refl w.1.0)))
-    u.feed.cases
-
-pub fence_joined : (s : List ℕ) (f i z : ℕ) → Fenced s f → i < f → JoinAt s i z → z < f
-fence_joined s f i z v h u = go (eqb z f) refl
-  where
-    go : (t : Bool) → eqb z f ≡ t → z < f
-    go true q =
-        let x = eqb-true z f q in
-        let k : 0 < f = omega (arith, h) in
-        absurd (no (sym (v.free k) ∙ rw x at (slash_join s i z u).0))
-    go false q = let x = eqb-false z f q in omega (arith, joined_high s f i z v h u)
+use Rattle.text.proofs.Feeds.{JoinAt, join_some, join_no, slash_join}
 
 pub fenced_none : (s : List ℕ) → Fenced s 0
 fenced_none s = record { high = omega arith; last = λ h. absurd (omega (arith, h)); free = λ h. absurd (omega (arith, h)) }
