@@ -36,6 +36,7 @@ impl Table {
     }
 
     // The row of a word: that of `*` at once, and the empty one for a word that is not listed.
+    #[inline(always)]
     pub fn row(&self, word: &[u8]) -> Row
         ensures { Rowed self.now word.now result }
     {

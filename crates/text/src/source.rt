@@ -315,6 +315,7 @@ impl<'a> Source<'a> {
     }
 
     // A plain word, if one is next. None says nothing, as above.
+    #[inline(always)]
     #[tactic(auto, using(crate::proofs::Readers::plain_found))]
     pub fn plain_word(&self, from: usize) -> Option<Span>
         requires { from < self.now.fence }
