@@ -2,11 +2,11 @@ use native.Mathlib.Omega.{arith}
 use mathlib.Core.Path.{refl}
 use Rattle.text.specs.Bytes.{bytes}
 use Rattle.xkbresolve.proofs.Prints.{lined_start, lined_more, lined_end}
-use Rattle.xkbresolve.proofs.printing.Page.of_components.Goals as goal
+use Rattle.xkbresolve.proofs.printing.Page.put_components.Goals as goal
 
 pub loop-c-init : goal.loop-c-init
 unfolding bytes
-loop-c-init c = lined_start _ _ _ _ refl c.new-page.ensures
+loop-c-init c = lined_start _ _ _ _ refl c.requires
 
 pub loop-c-preserved : goal.loop-c-preserved
 loop-c-preserved c =
