@@ -71,8 +71,7 @@ impl Page {
 
     // The line of a refusal.
     pub fn put_refusal(&mut self, refusal: Refusal)
-        requires { self.old ≡ [] }
-        ensures { self.new ≡ on_page (refusal_line (number_of refusal.fault) refusal.place) }
+        ensures { self.new ≡ on_page (self.old ++ refusal_line (number_of refusal.fault) refusal.place) }
     {
         self.put(b"refused ");
         self.put_number(refusal.fault.number());
@@ -83,8 +82,7 @@ impl Page {
 
     // The lines of the five components.
     pub fn put_components(&mut self, texts: &[u8], lengths: [u32; 10])
-        requires { self.old ≡ [] }
-        ensures { self.new ≡ on_page (stretch_lines names 0 texts.now lengths) }
+        ensures { self.new ≡ on_page (self.old ++ stretch_lines names 0 texts.now lengths) }
     {
         for (c, name) in NAMES.iter().enumerate() {
             self.put(name);

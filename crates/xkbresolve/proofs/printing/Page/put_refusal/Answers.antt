@@ -5,4 +5,4 @@ use Rattle.xkbresolve.proofs.printing.Page.put_refusal.Goals as goal
 pub returns : goal.returns
 unfolding bytes
 returns c =
-    refusal_put _ _ _ _ _ _ _ _ c.requires c.put.ensures (rw c.number.ensures at c.put_number.ensures) c.put-2.ensures c.put_number-2.ensures c.put-3.ensures
+    refusal_put _ _ _ _ _ _ _ _ _ c.number.ensures c.put.ensures c.put_number.ensures c.put-2.ensures c.put_number-2.ensures c.put-3.ensures
