@@ -1,7 +1,7 @@
 -- What is promised of every resolve, over the definitions of document 01, and at the end over what the running resolve leaves. Each proof cites a law.
 -- `answer` is the answer of a resolve; `entry_answer` is that of the entry for C, which is lent a sheet for the lengths besides.
 use Rattle.std.specs.Prelude.{ℕ, ◌+◌, ◌*◌, ◌/◌, ◌%◌, ◌^◌, ◌≤◌, ◌<◌, ◌≡◌, List, [], ◌∷◌, ◌++◌, map, true, length, drop, get_or, replicate}
-use Rattle.std.proofs.Common.{sym, ap, ◌∙◌, Ok, Err}
+use Rattle.std.proofs.Common.{refl, sym, ap, ◌∙◌, Ok, Err}
 use Rattle.text.specs.declared.Refusal.{Refusal}
 use Rattle.text.specs.declared.faults.Refusal.{Refusal as Refused}
 use Rattle.text.specs.Told.{number_of as fault_value}
