@@ -3,14 +3,14 @@ use Prim.Native.Nat.{ℕ, zero, suc, ◌+◌, ◌-◌, ◌≤◌, ◌<◌}
 use native.Mathlib.Omega.{arith}
 use mathlib.Core.Path.{◌≡◌, refl, sym, ap, ◌∙◌}
 use mathlib.Core.List.{List, [], ◌∷◌, ◌++◌, append_assoc, append-nil}
-use mathlib.Core.Bool.{Bool, true, false, ◌||◌, ◌&&◌, cond}
+use mathlib.Core.Bool.{Bool, true, false, ◌||◌, cond}
 use lib.ListN.{length, take, drop, get_or, length-append, length-take, length-drop, take-append-drop, get_or-append}
 use lib.Seq.{drop-length, drop-append-le, drop-append_seam, take-append_seam, drop-drop, take-add, get_or-drop}
 use lib.Dec.{eqb, ltb, leb}
 use borrow.Author.Tests.{eqb-true, eqb-false, ltb-true, ltb-false, le-leb, lt-leb}
 use Rattle.text.specs.Bytes.{Text, bytes, same, empty, first, part, concat_map}
 use Rattle.text.proofs.Comparing.{drop_at}
-use Rattle.text.proofs.Lists.{no, or_right, same_eq, same_self}
+use Rattle.text.proofs.Lists.{no, or_right, same_eq}
 use Rattle.text.proofs.Numbers.{below_or}
 use Rattle.text.proofs.Positions.{part_empty, part_cons}
 use Rattle.rules.specs.Headings.{decimal}
@@ -190,38 +190,6 @@ closes_not r n = go (closes_all r) refl
     go : (b : Bool) → closes_all r ≡ b → false ≡ closes_all r
     go true e = absurd (n (beyond r) (closes_is r e))
     go false e = sym e
-
-all_alone : (z : Text) → length z ≡ 0 → bytes ":all" ++ z ≡ bytes ":all"
-unfolding bytes
-all_alone [] h = refl
-all_alone (b ∷ z) h = absurd (omega arith)
-
-all_whole : (t z : Text) → length t ≤ 4 → t ≡ bytes ":all" ++ z → same t (bytes ":all") ≡ true
-all_whole t z h q =
-    let l : length z ≡ 0 = omega (arith, h, ap length q, length-append (bytes ":all") z, all_long) in
-    ap (λ (x : Text). same x (bytes ":all")) (q ∙ all_alone z l) ∙ same_self (bytes ":all")
-
--- in a text with no byte behind the four of an `:all`, and in one with some
-pub closes_last : (t : Text) → length t ≤ 4 → closes_all t ≡ same t (58 ∷ 97 ∷ 108 ∷ 108 ∷ [])
-unfolding bytes empty
-closes_last t h = go (same t (bytes ":all")) refl
-  where
-    go : (b : Bool) → same t (bytes ":all") ≡ b → closes_all t ≡ same t (bytes ":all")
-    go true e = ap closes_all (same_eq t (bytes ":all") e) ∙ (closes_behind [] ∙ sym e)
-    go false e = sym (closes_not t (λ z q. no (sym e ∙ all_whole t z h q))) ∙ sym e
-
-pub closes_more : (t : Text) → 4 < length t → closes_all t ≡ (same (take 4 t) (58 ∷ 97 ∷ 108 ∷ 108 ∷ []) && is_sign (get_or t 4 0))
-unfolding bytes empty signed first
-closes_more t h = go (same (take 4 t) (bytes ":all")) refl
-  where
-    go : (b : Bool) → same (take 4 t) (bytes ":all") ≡ b → closes_all t ≡ (same (take 4 t) (bytes ":all") && is_sign (get_or t 4 0))
-    go true e =
-        let q : t ≡ bytes ":all" ++ drop 4 t = sym (take-append-drop 4 t) ∙ ap (λ (x : Text). x ++ drop 4 t) (same_eq (take 4 t) (bytes ":all") e) in
-        let r : empty (drop 4 t) || signed (drop 4 t) ≡ is_sign (get_or t 4 0) = ap (λ (x : Text). empty x || signed x) (drop_at t 4 h) in
-        ap closes_all q ∙ (closes_behind (drop 4 t) ∙ (r ∙ ap (λ (x : Bool). x && is_sign (get_or t 4 0)) (sym e)))
-    go false e =
-        sym (closes_not t (λ z q. no (sym e ∙ (ap (λ (x : Text). same (take 4 x) (bytes ":all")) q ∙ (ap (λ (x : Text). same x (bytes ":all")) (all_taken z) ∙ same_self (bytes ":all"))))))
-        ∙ ap (λ (x : Bool). x && is_sign (get_or t 4 0)) (sym e)
 
 closes_first : (t : Text) (i : ℕ) → (get_or t i 0 ≡ 58 → ⊥) → closes_all (drop i t) ≡ false
 unfolding bytes

@@ -7,7 +7,6 @@ ghost use Rattle.values.specs.Spread.{is_sign, signed, cuts, copy, copies, sprea
 ghost use Rattle.values.specs.Cutting.{closes_all, ToColon, NextAll, start_of, sign_of, behind_sign, more_copies};
 
 use super::write;
-use text::compare::same;
 
 // Whether a byte is a sign.
 fn is_sign(b: u8) -> bool
@@ -135,14 +134,13 @@ fn to_colon(t: &[u8], from: usize) -> Option<usize>
 }
 
 // Whether a piece ends with the `:all` that a text begins with.
-#[tactic(auto, using(crate::proofs::Keeping::closes_last, crate::proofs::Keeping::closes_more))]
 fn closes_all(t: &[u8]) -> bool
     ensures { result ≡ closes_all t.now }
 {
-    if t.len() <= 4 {
-        return same(t, b":all");
+    match t.strip_prefix(b":all") {
+        Some(rest) => rest.is_empty() || is_signed(rest),
+        None => false,
     }
-    same(&t[..4], b":all") && is_sign(t[4])
 }
 
 // The first place from `from` on where an `:all` begins that a piece ends with.
