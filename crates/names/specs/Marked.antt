@@ -30,6 +30,7 @@ name_count v = cond (empty v) 0 1
 pub record Marked (t t' : Table) (most : ℕ) (f : Question) : Type 0 where
   pub text : text_of t'.list ≡ text_of t.list
   pub used : t'.list.used ≡ t.list.used
+  pub room : t'.list.text ≡ t.list.text
   pub few : t'.list.count ≤ t.list.count + most
   pub held : (q : Question) → Filled q 32 t → Filled (or_also q f) 32 t'
   pub numbers : (w : Text) (g : ℕ) → number_in (names_of t.list) w ≡ Some g → number_in (names_of t'.list) w ≡ Some g

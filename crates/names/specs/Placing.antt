@@ -55,12 +55,13 @@ pub record Emptied (at first : ℕ) (b b' : List Span) : Type 0 where
   pub before : (i : ℕ) → i < first → get_or b' i no_span ≡ get_or b i no_span
   pub beyond : (i : ℕ) → first + 32 ≤ i → get_or b' i no_span ≡ get_or b i no_span
 
--- The first 32 fields have their places, from the value number `first` on; a value that has no field is empty, where the text ends.
+-- The first 32 fields have their places, from the value number `first` on; a value that has no field is empty, where
+-- the text ends.
 pub record FieldsAt (o : Text) (base first : ℕ) (b : List Span) : Type 0 where
   pub here : (j : ℕ) → j < 32 → j < length (fields o) → FieldPlace (fields o) base j (get_or b (first + j) no_span)
   pub none : (j : ℕ) → j < 32 → length (fields o) ≤ j → EmptyAt (base + length o) (get_or b (first + j) no_span)
 
--- and the other places are as they were
+-- the same, and the places before and behind these are as they were
 pub record FieldsPlaced (o : Text) (base first : ℕ) (b b' : List Span) : Type 0 where
   pub size : length b' ≡ length b
   pub placed : FieldsAt o base first b'

@@ -18,8 +18,8 @@ fn empty_places(at: usize, first: usize, bounds: &mut [Span; 65])
     }
 }
 
-// The places of a text's first 32 fields, from the value number `first` on, where the text stands from `base` on. A value that has no field is empty, where the text
-// ends; the other places are left as they are.
+// The places of a text's first 32 fields, from the value number `first` on, where the text stands from `base` on. A
+// value that has no field is empty, where the text ends; the other places are left as they are.
 fn place_fields(text: &[u8], base: usize, first: usize, bounds: &mut [Span; 65])
     requires { (first ≤ 33) × (base + length text.now ≤ 4 * longest_text) }
     ensures { FieldsPlaced text.now base first bounds.old bounds.new }

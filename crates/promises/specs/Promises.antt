@@ -228,8 +228,9 @@ module _ (d f : Text) (t : Texts)
 pub line_ends_closed : (f : Text) → no_return f ≡ true → closed (crlf f) ≡ closed f
 line_ends_closed = crlf_closed
 
--- The same of the running resolve. The contract of `resolve` is `Resolved f t d d' (outcome_told x)`: for the file f and the four texts t it gives x, a
--- Result, which `outcome_told` tells as an outcome r, and the buffer goes from d to d'.
+-- The same of the running resolve. The contract of `resolve` is `Resolved f t d d' (outcome_told x)`: for the file f
+-- and the four texts t it gives x, a Result, which `outcome_told` tells as an outcome r, and the buffer goes from d
+-- to d'.
 
 -- Demand 1: a refusal has a number from 1 to 11 and ten zero lengths, "and the buffer then holds just what it held before".
 pub resolve_refused : (f : Text) (t : Texts) (d d' : Text) (r : Outcome) → Resolved f t d d' r → (r.number ≡ 0 → ⊥) →
@@ -246,8 +247,9 @@ pub resolve_strings : (f : Text) (t : Texts) (d d' : Text) (r : Outcome) → Res
     stretch d' r.lengths c ≡ base (values_of c (file_firings f (profile_of t))) ++ additions (values_of c (file_firings f (profile_of t)))
 resolve_strings = resolves.strings
 
--- "When an answer is an enum, a definition states this paper's number and values for each of its cases": of an Err the fault's number and the place are the
--- answer's, and the buffer holds just what it held before; of an Ok the lengths are those of the ten texts that the buffer then starts with.
+-- "When an answer is an enum, a definition states this paper's number and values for each of its cases": of an Err
+-- the fault's number and the place are the answer's, and the buffer holds just what it held before; of an Ok the
+-- lengths are those of the ten texts that the buffer then starts with.
 pub resolve_err : (f : Text) (t : Texts) (d d' : Text) (e : Refused) → Resolved f t d d' (outcome_told (Err e)) →
     (fault_value e.fault ≡ number_of (answer (length d) f t)) × (e.place ≡ place_of (answer (length d) f t)) × (d' ≡ d)
 unfolding outcome

@@ -50,9 +50,9 @@ pub record Before (w : Text) (i : Option Index) (t : Text) : Type 0 where
   pub whole : t ≡ w ++ rest
   pub after : index_of rest ≡ i
 
--- "recognised exactly where its own bytes stand": the text t is given the meaning just where it is the word w; with what
--- follows `layout` or `variant` as its index, and none just where it begins so and no index follows; an index word with its
--- brackets
+-- "recognised exactly where its own bytes stand": the text t is given the meaning just where it is the word w; with
+-- what follows `layout` or `variant` as its index, and none just where it begins so and no index follows; an index
+-- word with its brackets
 unfoldable pub Exactly : Meaning → Text → Text → Type 0
 Exactly (left m) w t = Just (left_item t ≡ Some m) (t ≡ w)
 Exactly (left_before m) w t =

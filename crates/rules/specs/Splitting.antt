@@ -23,8 +23,8 @@ unfoldable pub equals_after : Option ℕ → ℕ → Bool → Option ℕ
 equals_after None n b = cond b (Some n) None
 equals_after (Some k) n b = Some k
 
--- one word more of a heading: the words so far, those before the first `=`, whether another was met after it, and whether
--- all words from the third on are ordinary
+-- one word more of a heading: the words so far, those before the first `=`, whether another was met after it, and
+-- whether all words from the third on are ordinary
 unfoldable pub tallied : Tally → Text → Tally
 tallied t w =
     record {

@@ -1,4 +1,4 @@
--- The first LF of a line, which ends it where no backslash stands before its line end.
+-- A fence at the start; and the first LF of a line, which ends it where no backslash stands before its line end.
 use Prim.Native.Nat.{ℕ, zero, suc, ◌+◌, ◌-◌, ◌≤◌, ◌<◌}
 use native.Mathlib.Omega.{arith}
 use mathlib.Core.Path.{◌≡◌, refl, sym, ap, ◌∙◌}

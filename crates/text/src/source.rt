@@ -392,7 +392,7 @@ impl<'a> Source<'a> {
         }
     }
 
-    // The same, where words are few: the compiler takes `next_word` into the one loop that calls it.
+    // The same by a call, where words are few: the compiler takes `next_word` into each loop that has it.
     #[inline(never)]
     pub fn word_at(&self, from: Spot) -> Next
         requires { Within self.now.bytes.now from.at from.line }

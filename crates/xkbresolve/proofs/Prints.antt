@@ -74,7 +74,8 @@ unfolding refusal_line
 refusal_put p₀ p₁ p₂ p₃ p₄ p₅ n r k e e₁ e₂ e₃ e₄ e₅ =
     more p₄ p₅ _ _ (more p₃ p₄ _ _ (more p₂ p₃ _ _ (more p₁ p₂ _ _ e₁ e₂) e₃) e₄) e₅ ∙ rw e (simp append_assoc)
 
--- the lines of the first c components are on the page, behind q, which stood there; ns are the names as the code has them
+-- the lines of the first c components are on the page, behind q, which stood there; ns are the names as the code has
+-- them
 pub record Lined (q x : Text) (ls : List ℕ) (ns : List (Bor Text)) (p : Text) (c : ℕ) : Type 0 where
   pub named : map (λ t. t.now) ns ≡ names
   pub none : c ≡ 0 → p ≡ q

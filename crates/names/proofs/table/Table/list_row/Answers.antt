@@ -1,4 +1,4 @@
-use Rattle.std.proofs.Common.{true, set, refl, sym, ap, ◌∙◌, arith}
+use Rattle.std.proofs.Common.{true, set, drop, refl, sym, ap, ◌∙◌, arith}
 use Rattle.text.specs.Bytes.{part}
 use Rattle.listing.specs.Lists.{bytes_at}
 use Rattle.listing.proofs.Finding.{part_front}
@@ -19,6 +19,7 @@ returns c =
     record {
       text = rw (a.text.0, a.text.1);
       used = a.text.1 ∙ sym l.long;
+      room = ap (drop _) a.text.0;
       count = a.count ∙ rw new;
       names = a.names ∙ rw new;
       rows = refl;
