@@ -5,3 +5,4 @@ pub mod Limits
 pub mod Written
 pub mod Judged
 pub mod Spelling
+pub mod Bounds

@@ -4,24 +4,29 @@ use native.Mathlib.Omega.{arith}
 use native.Mathlib.Nat.{zero-add, add_comm}
 use mathlib.Core.Path.{◌≡◌, refl, sym, ap, ◌∙◌}
 use mathlib.Core.List.{List, ◌∷◌, map}
-use mathlib.Core.Bool.{Bool, true, false}
+use mathlib.Core.Bool.{Bool, true, false, not, ◌&&◌}
 use lib.ListN.{length, get_or, drop, length-drop}
 use lib.Seq.{drop-drop}
+use lib.Dec.{eqb}
+use borrow.Author.Tests.{not-true, ne_eqb}
 use Rattle.std.specs.Prelude.{Option, Some, None, Err, IfSome}
 use Rattle.text.specs.declared.Place.TheVariants.{Start, Space}
 use Rattle.text.specs.declared.Span.{Span}
 use Rattle.text.specs.declared.Spot.{Spot}
 use Rattle.text.specs.declared.faults.Fault.{Fault}
-use Rattle.text.specs.declared.kinds.Kind.TheVariants.{Plain}
+use Rattle.text.specs.declared.kinds.Kind.{Kind}
+use Rattle.text.specs.declared.kinds.Kind.TheVariants.{Plain, Slash, Percent, Other}
 use Rattle.text.specs.Bytes.{Text, Words}
 use Rattle.text.specs.Marks.{marks}
 use Rattle.text.specs.Lines.{lines_of}
-use Rattle.text.specs.Words.{words_fault}
+use Rattle.text.specs.Words.{bad_byte, words_fault}
 use Rattle.text.specs.Kinds.{kind_of}
 use Rattle.text.specs.Told.{number_of}
 use Rattle.text.specs.Reading.{left, ahead, follow, Fenced, NoWord, Passed, Opens}
 use Rattle.text.specs.Sources.{Skipped, feed_end}
 use Rattle.text.proofs.Joined.{shifted, lines_of_shift}
+use Rattle.text.proofs.ByteKinds.{Means, means}
+use Rattle.text.proofs.Lists.{and_both}
 use Rattle.text.proofs.Feeds.{FeedAt}
 use Rattle.text.proofs.Readers.{line_at, line_first, blanks_start, between_skip, between_over, fence_in}
 use Rattle.text.proofs.Sources.{feed_some, opened_plain}
@@ -37,9 +42,30 @@ use Rattle.rules.proofs.LineKinds.{line_wrong, line_ignored, line_rule}
 use Rattle.rules.proofs.CheckSteps.{refused_first, check_cons, entry_any}
 use Rattle.judging.specs.Lines.{RestRead, PlainStart, WordsPass, WordsJudged, RuleLineRead, LineRefused}
 
+-- a byte of words that is no slash, by its kind
+abbrev pub plain_kind : Kind → Bool
+plain_kind Plain = true
+plain_kind Slash = false
+plain_kind Percent = true
+plain_kind Other = false
+
+pub plain_reads : (b : ℕ) → (not (bad_byte b) && not (eqb b 47)) ≡ plain_kind (kind_of b)
+unfolding bad_byte
+plain_reads b = go (kind_of b) (means b)
+  where
+    go : (k : Kind) → Means b k → (not (bad_byte b) && not (eqb b 47)) ≡ plain_kind k
+    go Plain m = rw (m.0, ne_eqb b 47 m.1) refl
+    go Slash m = rw m refl
+    go Percent m = rw m refl
+    go Other m = rw m refl
+
+plain_byte : (b : ℕ) → (not (bad_byte b) && not (eqb b 47)) ≡ true → bad_byte b ≡ false
+plain_byte b h = not-true _ (and_both (not (bad_byte b)) (not (eqb b 47)) h).0
+
 -- a line that begins with a plain byte
-pub opens_plain : (s : Text) (f at i : ℕ) → Fenced s f → Skipped s at i → i < f → (get_or s i 0 ≡ 33 → ⊥) → kind_of (get_or s i 0) ≡ Plain → PlainStart s at i
-opens_plain s f at i g k l x z = record { opens = λ n y. opened_plain s at n i y k (fence_in s f i g l) x z }
+pub opens_plain : (s : Text) (f at i : ℕ) → Fenced s f → Skipped s at i → i < f → (get_or s i 0 ≡ 33 → ⊥) →
+    (not (bad_byte (get_or s i 0)) && not (eqb (get_or s i 0) 47)) ≡ true → PlainStart s at i
+opens_plain s f at i g k l x z = record { opens = λ n y. opened_plain s at n i y k (fence_in s f i g l) x (plain_byte (get_or s i 0) z) }
 
 -- the rest of a line at one go
 

@@ -1,11 +1,9 @@
 -- The heading of a set: one law for each way it is judged.
 use Prim.Native.Nat.{ℕ, ◌+◌, ◌≤◌}
 use native.Mathlib.Omega.{arith}
-use mathlib.Core.Path.{◌≡◌, refl, sym, ap, ◌∙◌}
+use mathlib.Core.Path.{◌≡◌, refl, sym, ◌∙◌}
 use mathlib.Core.List.{List, [], ◌∷◌, map}
-use mathlib.Core.Bool.{Bool, true, false, not, ◌&&◌}
-use lib.Dec.{eqb}
-use Rattle.std.specs.Cmp.Lexicographic.{pointwise}
+use mathlib.Core.Bool.{true, false, not}
 use lib.ListN.{length, get_or, drop, length-append}
 use borrow.Author.Tests.{not-true}
 use Rattle.std.specs.Prelude.{Option, Some, None, Result}
@@ -13,7 +11,7 @@ use Rattle.std.specs.Option.{ok_or}
 use Rattle.text.specs.declared.Span.{Span}
 use Rattle.text.specs.declared.faults.Fault.{Fault}
 use Rattle.text.specs.declared.faults.Fault.TheVariants.{BadHeading}
-use Rattle.text.specs.Bytes.{Text, Words, same, empty, all_of, concat_map}
+use Rattle.text.specs.Bytes.{Text, Words, empty, all_of, concat_map}
 use Rattle.text.specs.Reading.{left}
 use Rattle.text.proofs.Lists.{no, and_both}
 use Rattle.rules.specs.declared.Item.{Item}
@@ -28,26 +26,16 @@ use Rattle.rules.specs.Sets.{IsSet}
 use Rattle.rules.specs.Checking.{line_of}
 use Rattle.rules.proofs.LineKinds.{set_good, set_bad}
 use Rattle.rules.proofs.HeldHeadings.{heading_held, sized_held}
+use Rattle.rules.proofs.Sides.{few_columns, good_parts}
 use Rattle.judging.specs.Sets.{SetOf, SetLineOf}
 use Rattle.judging.proofs.Indexed.{index_from_one}
 use Rattle.judging.proofs.RuleLines.{split_words, split_passed}
-
--- the library's test of two slices
-pointwise_same : (a b : Text) → pointwise eqb a b ≡ same a b
-unfolding same
-pointwise_same [] [] = refl
-pointwise_same [] (c ∷ t) = refl
-pointwise_same (b ∷ s) [] = refl
-pointwise_same (b ∷ s) (c ∷ t) = ap (λ (r : Bool). eqb b c && r) (pointwise_same s t)
-
-pub same_told : (r : Bool) (w y a b : Text) → r ≡ pointwise eqb w y → w ≡ a → y ≡ b → same a b ≡ r
-same_told r w y a b e f g = sym (e ∙ rw (f, g) (pointwise_same a b))
 
 -- another way to write the same line
 pub set_as : (e e' : Entry) (r : Result SetHeading Fault) → e ≡ e' → SetOf e' r → SetOf e r
 set_as e e' r h v = rw h v
 
--- a heading has a column
+-- a heading has a column, and no more than there are
 
 known_column : (i : Option Item) → known_item i ≡ true → length (columns_in i) ≡ 1
 unfolding known_item columns_in
@@ -80,6 +68,10 @@ module _ (ws : Words) (shape : set_shape ws ≡ true) where
       let k = (and_both (all_of known_item (map left_item (before ws))) _ g).0 in
       some_column (map left_item (before ws)) (some_items (before ws) (not-true _ n)) k
 
+  own_few : good_items (map left_item (before ws)) (map component_of (after ws)) ≡ true → length own.columns ≤ 4
+  unfolding heading_of
+  own_few g = few_columns (concat_map columns_in (map left_item (before ws))) (good_parts (map left_item (before ws)) (map component_of (after ws)) g).left
+
   own_index : own.index ≡ first_index (concat_map indexes_in (map left_item (before ws)))
   unfolding heading_of
   own_index = refl
@@ -89,7 +81,7 @@ module _ (ws : Words) (shape : set_shape ws ≡ true) where
   set_judged (Some h) v =
       let k = sym v.good in
       let w = v.holds h refl in
-      record { is = set_good ws shape k ∙ rw (heading_held own h w) refl; sized = sized_held own h w (own_columns k); index = rw (w.index, own_index) (index_from_one (before ws)) }
+      record { is = set_good ws shape k ∙ rw (heading_held own h w) refl; sized = sized_held own h w (own_columns k) (own_few k); index = rw (w.index, own_index) (index_from_one (before ws)) }
 
 -- the first word of a part of the file
 pub tail_dollar : (s : Text) (from : ℕ) (x : Text) → x ≡ drop from s → has_dollar (get_or (left s from) 0 []) ≡ false → has_dollar (get_or (words_of x) 0 []) ≡ false

@@ -50,7 +50,7 @@ fn read_members(src: &Source, from: Spot, names: &Names) -> Members
         next: from,
     };
     loop {
-        match src.word_at(members.next) {
+        match src.next_word(members.next) {
             Next::Found {
                 start,
                 end,

@@ -1,6 +1,7 @@
 // A line that may be a rule, held to the present heading.
-ghost use Rattle.std.specs.Prelude.{◌≡◌, List, false, ◌≤◌, ◌<◌, length, IfSome};
+ghost use Rattle.std.specs.Prelude.{◌≡◌, List, false, not, ◌&&◌, eqb, ◌≤◌, ◌<◌, length, IfSome};
 ghost use Rattle.text.specs.Bytes.{Text};
+ghost use Rattle.text.specs.Words.{bad_byte};
 ghost use Rattle.text.specs.Reading.{Opens};
 ghost use Rattle.text.specs.Sources.{Within};
 ghost use Rattle.text.specs.Told.{outcome_number};
@@ -20,6 +21,14 @@ use text::kinds::Kind;
 use text::source::{Source, feed_end};
 use text::{Opening, Span, Spot};
 
+// Whether a byte is one of words, and no slash.
+#[tactic(auto, using(crate::proofs::RuleLines::plain_reads))]
+fn is_plain(b: u8) -> bool
+    ensures { result ≡ (not (bad_byte b) && not (eqb b 47)) }
+{
+    matches!(Kind::of(b), Kind::Plain | Kind::Percent)
+}
+
 // The rest of a line at one go, from its first byte that is no blank: where the next line starts. None says nothing.
 fn rest_end(src: &Source, from: usize, p: Present) -> Option<usize>
     ensures { IfSome result (RestRead src.now.bytes.now from p) }
@@ -27,7 +36,7 @@ fn rest_end(src: &Source, from: usize, p: Present) -> Option<usize>
     if src.fence <= from {
         return None;
     }
-    if Kind::of(src.bytes[from]) != Kind::Plain {
+    if !is_plain(src.bytes[from]) {
         return feed_end(src.bytes, from);
     }
     let headless = p.form == Form::Absent;
@@ -80,7 +89,7 @@ fn plain_start(src: &Source, at: usize) -> Option<usize>
     }
     let i = src.skip_blanks(at);
     let b = src.bytes[i];
-    if b == b'!' || Kind::of(b) != Kind::Plain {
+    if b == b'!' || !is_plain(b) {
         return None;
     }
     Some(i)

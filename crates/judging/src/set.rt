@@ -15,6 +15,7 @@ use rules::lines::split_line;
 use rules::placed::PlacedWords;
 use rules::sets::read_set;
 use rules::{SetHeading, Split, Tally};
+use text::compare::same;
 use text::faults::Fault;
 use text::source::Source;
 use text::{Span, Spot};
@@ -44,7 +45,7 @@ fn judge_heading(line: &PlacedWords, l: Split) -> Result<SetHeading, Fault>
     if line.count == 0 {
         return Err(Fault::BadLine);
     }
-    if line.word(0) == b"include".as_slice() {
+    if same(line.word(0), b"include") {
         return Err(Fault::IncludeLine);
     }
     judge_set(line, l.tally)

@@ -49,7 +49,7 @@ module _ (w : Text) (h : has_dollar w ≡ true) (row : Row) (names : Names) wher
 
   -- nothing is changed
   kept_all : ((x : Texts) (gs : Groups) → Ready x gs names → true ≡ defined gs (rest w) || leb most_groups (length gs)) → Defines w row names names (Err BadGroup)
-  kept_all f = record { kept = λ z. (refl, refl); few = λ z. absurd (no z); number = λ z. absurd (no z); text = λ z. absurd (no z); values = (refl, refl); refusal = f; more = λ z. absurd (no z) }
+  kept_all f = record { kept = λ z. (refl, refl); few = λ z. absurd (no z); number = λ z. absurd (no z); count = λ z. absurd (no z); text = λ z. absurd (no z); values = (refl, refl); refusal = f; more = λ z. absurd (no z) }
 
   module _ (r : Bool) (e : r ≡ any_of (same w) (names_of names.table.list)) where
     pub defines_twice : r ≡ true → Defines w row names names (Err BadGroup)
@@ -95,6 +95,7 @@ module _ (w : Text) (h : has_dollar w ≡ true) (row : Row) (names : Names) wher
             kept = λ z. absurd (no z);
             few = λ z. few;
             number = λ z. grown;
+            count = λ z. u.count;
             text = λ z. u.text;
             values = kept;
             refusal = λ x gs v. not_refused r e x gs v f few;

@@ -1,5 +1,5 @@
 -- Where the fields of a text stand.
-use Rattle.std.proofs.Common.{◌≡◌, ℕ, zero, suc, ◌+◌, ◌-◌, ◌≤◌, ◌<◌, Bool, true, false, cond, eqb, List, [], ◌∷◌, length, get_or, refl, ap, ◌∙◌, arith}
+use Rattle.std.proofs.Common.{◌≡◌, ℕ, zero, suc, ◌+◌, ◌-◌, ◌≤◌, ◌<◌, Bool, true, false, cond, eqb, List, [], ◌∷◌, length, get_or, take, length-take, get_or-take, refl, ap, ◌∙◌, arith}
 use Rattle.std.specs.List.{slice_split, enumerate_from}
 use Rattle.std.proofs.lemmas.List.{get_or_default}
 use Rattle.std.proofs.lemmas.List.FromFn.{length-enumerate_from, get_or-enumerate_from}
@@ -105,15 +105,22 @@ turn o n f h =
     record { few = l; field = (rw (← fields_split o) at h.1) ∙ get_or_default (fields o) n f [] l }
 
 pub numbered_turn : (o : Text) (n j : ℕ) (f : Text) →
-    (n < length (enumerate_from 0 (slice_split comma o))) × (◌≡◌ {A = ℕ × Text} (j, f) (get_or (enumerate_from 0 (slice_split comma o)) n (j, f))) → (j ≡ n) × Turn o n f
+    (n < length (enumerate_from 0 (take 32 (slice_split comma o)))) × (◌≡◌ {A = ℕ × Text} (j, f) (get_or (enumerate_from 0 (take 32 (slice_split comma o))) n (j, f))) →
+    (j ≡ n) × (n < 32) × Turn o n f
 numbered_turn o n j f h =
-    let l : n < length (slice_split comma o) = rw length-enumerate_from at h.0 in
-    let e = h.1 ∙ get_or-enumerate_from 0 (slice_split comma o) n (j, f) l in
+    let l : n < length (take 32 (slice_split comma o)) = rw length-enumerate_from at h.0 in
+    let k : n < 32 = omega (arith, length-take 32 (slice_split comma o)) in
+    let m : n < length (slice_split comma o) = omega (arith, length-take 32 (slice_split comma o)) in
+    let e = h.1 ∙ get_or-enumerate_from 0 (take 32 (slice_split comma o)) n (j, f) l in
     let i : j ≡ 0 + n = ap (λ (p : ℕ × Text). p.0) e in
-    (omega arith, turn o n f (l, ap (λ (p : ℕ × Text). p.1) e))
+    (omega arith, k, turn o n f (m, ap (λ (p : ℕ × Text). p.1) e ∙ get_or-take 32 (slice_split comma o) n f k))
 
 pub fields_count : (o : Text) (n : ℕ) → n ≡ length (slice_split comma o) → n ≡ length (fields o)
 fields_count o n e = rw (fields_split o) e
 
-pub numbered_end : (o : Text) (n : ℕ) → n ≡ length (enumerate_from 0 (slice_split comma o)) → n ≡ length (fields o)
-numbered_end o n e = fields_count o n (e ∙ length-enumerate_from 0 (slice_split comma o))
+-- all of the first 32 are told
+pub numbered_end : (o : Text) (n : ℕ) → n ≡ length (enumerate_from 0 (take 32 (slice_split comma o))) → (j : ℕ) → j < 32 → j < length (fields o) → j < n
+numbered_end o n e j l m =
+    let s : length (fields o) ≡ length (slice_split comma o) = ap length (fields_split o) in
+    let z : n ≡ length (take 32 (slice_split comma o)) = e ∙ length-enumerate_from 0 (take 32 (slice_split comma o)) in
+    omega (arith, length-take 32 (slice_split comma o))

@@ -18,7 +18,7 @@ use Rattle.listing.specs.declared.names.Listing.{Listing}
 use Rattle.listing.specs.Lists.{text_of, Empty, Appended}
 use Rattle.listing.proofs.Finding.{part_longer}
 use Rattle.names.specs.declared.table.Table.{Table}
-use Rattle.names.specs.Placing.{four_texts, ShortTexts, TextsCopied, Lies, field_start, FieldPlace, FieldsPlaced, ValuesPlaced}
+use Rattle.names.specs.Placing.{four_texts, ShortTexts, TextsCopied, Lies, field_start, EmptyAt, FieldPlace, Emptied, FieldsPlaced, ValuesPlaced}
 use Rattle.names.proofs.Fields.{field_in, start_first, start_next}
 
 pub whole_part : (w : Text) → part w 0 (length w) ≡ w
@@ -93,6 +93,7 @@ module _ (x : Texts) where
 -- the loop of `place_fields`: the places of n fields are in the list
 pub record Placing (o : Text) (base first : ℕ) (b₀ b : List Span) (n start : ℕ) : Type 0 where
   pub few : n ≤ length (fields o)
+  pub low : n ≤ 32
   pub size : length b ≡ length b₀
   pub next : start ≡ base + field_start (fields o) n
   pub done : (j : ℕ) → j < n → FieldPlace (fields o) base j (get_or b (first + j) no_span)
@@ -104,6 +105,7 @@ module _ (o : Text) (base first : ℕ) (b₀ : List Span) where
   placing_start =
       record {
         few = omega arith;
+        low = omega arith;
         size = refl;
         next = omega (arith, start_first (fields o));
         done = λ j h. absurd (omega arith);
@@ -115,11 +117,12 @@ module _ (o : Text) (base first : ℕ) (b₀ : List Span) where
     pub placing_low : n < length (fields o) → start + length (get_or (fields o) n []) ≤ base + length o
     placing_low l = omega (arith, g.next, (field_in o n l).high)
 
-    pub placing_more : n < length (fields o) → first + length (fields o) ≤ length b₀ → (f : Text) → f ≡ get_or (fields o) n [] → (m : ℕ) → m ≡ n + 1 →
+    pub placing_more : n < length (fields o) → n < 32 → first + 32 ≤ length b₀ → (f : Text) → f ≡ get_or (fields o) n [] → (m : ℕ) → m ≡ n + 1 →
         Placing o base first b₀ (set b (first + n) (record { start = start; end = start + length f })) m (start + length f + 1)
-    placing_more l k f e m y =
+    placing_more l low k f e m y =
         record {
           few = omega arith;
+          low = omega arith;
           size = length-set b (first + n) (record { start = start; end = start + length f }) ∙ g.size;
           next = rw y (let z = start_next (fields o) n l in let w : length f ≡ length (get_or (fields o) n []) = ap length e in omega (arith, g.next));
           done = λ j h. by j h (eqb j n) refl;
@@ -139,22 +142,34 @@ module _ (o : Text) (base first : ℕ) (b₀ : List Span) where
             rw (get_or-set_other b (first + n) (first + j) (record { start = start; end = start + length f }) no_span (λ (x : first + j ≡ first + n). d (omega arith)))
             (g.done j (omega arith))
 
-    pub placing_end : n ≡ length (fields o) → FieldsPlaced o base first b₀ b
-    placing_end e = record { size = g.size; here = λ j h. g.done j (omega arith); before = g.before; beyond = λ i h. g.rest i (omega arith) }
+    pub placing_end : ((j : ℕ) → j < 32 → j < length (fields o) → j < n) → (b₁ : List Span) → Emptied (base + length o) first b₁ b₀ → FieldsPlaced o base first b₁ b
+    placing_end all b₁ u =
+        record {
+          size = g.size ∙ u.size;
+          placed =
+              record {
+                here = λ j l h. g.done j (all j l h);
+                none = λ j l h. g.rest (first + j) (omega (arith, g.few)) ∙ u.here (first + j) (omega arith) (omega arith);
+              };
+          before = λ i h. g.before i h ∙ u.before i h;
+          beyond = λ i h. g.rest i (omega (arith, g.low)) ∙ u.beyond i h;
+        }
 
 -- the model, the layouts, the variants
 
 pub values_placed : (x : Texts) (b b' b'' : List Span) → length b ≡ most_values → get_or b 0 no_span ≡ record { start = 0; end = length x.model } →
-    ((j : ℕ) → 1 ≤ j → get_or b j no_span ≡ no_span) → length (fields x.layouts) ≤ 32 → FieldsPlaced x.layouts (length x.model) 1 b b' →
+    FieldsPlaced x.layouts (length x.model) 1 b b' →
     FieldsPlaced x.variants (length x.model + length x.layouts) 33 b' b'' → ValuesPlaced x b''
-values_placed x b b' b'' n m r l p q =
+values_placed x b b' b'' n m p q =
     record {
       size = q.size ∙ (p.size ∙ n);
       model = q.before 0 (omega arith) ∙ (p.before 0 (omega arith) ∙ m);
-      layout = λ j h. rw (q.before (1 + j) (omega arith)) (p.here j h);
-      variant = q.here;
-      no_layout = λ j h k. q.before (1 + j) (omega arith) ∙ (p.beyond (1 + j) (omega arith) ∙ r (1 + j) (omega arith));
-      no_variant = λ j h. q.beyond (33 + j) (omega arith) ∙ (p.beyond (33 + j) (omega arith) ∙ r (33 + j) (omega arith));
+      layouts =
+          record {
+            here = λ j l h. rw (q.before (1 + j) (omega arith)) (p.placed.here j l h);
+            none = λ j l h. q.before (1 + j) (omega arith) ∙ p.placed.none j l h;
+          };
+      variants = q.placed;
     }
 
 none_behind : (n j : ℕ) → get_or (replicate n no_span) j no_span ≡ no_span
@@ -162,10 +177,6 @@ none_behind zero zero = refl
 none_behind zero (suc j) = refl
 none_behind (suc n) zero = refl
 none_behind (suc n) (suc j) = none_behind n j
-
--- the places before the fields are put in
-pub first_places : (p : Span) → (j : ℕ) → 1 ≤ j → get_or (set (replicate most_values no_span) 0 p) j no_span ≡ no_span
-first_places p j h = get_or-set_other (replicate most_values no_span) 0 j p no_span (λ (z : j ≡ 0). omega arith) ∙ none_behind most_values j
 
 -- no value has a place yet
 pub none_placed : (s : Text) → Placed s (replicate most_values no_span)
@@ -255,7 +266,7 @@ module _ (x : Texts) (h : profile_refusals x ≡ []) where
 
     -- a place of a field, or one that is empty
     field_at : (o : Text) (base j n : ℕ) → Lies s base o → any_of long_field (fields o) ≡ false →
-        (j < length (fields o) → FieldPlace (fields o) base j (get_or b n no_span)) → (length (fields o) ≤ j → get_or b n no_span ≡ no_span) →
+        (j < length (fields o) → FieldPlace (fields o) base j (get_or b n no_span)) → (length (fields o) ≤ j → EmptyAt (base + length o) (get_or b n no_span)) →
         InText s (get_or b n no_span) × (value_at s b n ≡ get_or (fields o) j [])
     unfolding value_at
     field_at o base j n v k f g = by (ltb j (length (fields o))) refl
@@ -273,18 +284,18 @@ module _ (x : Texts) (h : profile_refusals x ≡ []) where
         by false z =
             let l = ltb-false j (length (fields o)) z in
             rw (g l) (
-              record { low = omega arith; high = omega arith; short = omega arith },
-              part_empty s 0 ∙ sym (get_or_past (fields o) j [] l),
+              record { low = omega arith; high = v.high; short = omega arith },
+              part_empty s (base + length o) ∙ sym (get_or_past (fields o) j [] l),
             )
 
     layout_at : (j : ℕ) → j < 32 → InText s (get_or b (1 + j) no_span) × (value_at s b (1 + j) ≡ get_or (fields x.layouts) j [])
     layout_at j l =
-        field_at x.layouts (length x.model) j (1 + j) (lies_layouts x) (good_text x.layouts (fields x.layouts) good_layouts).1 (p.layout j) (λ k. p.no_layout j k l)
+        field_at x.layouts (length x.model) j (1 + j) (lies_layouts x) (good_text x.layouts (fields x.layouts) good_layouts).1 (p.layouts.here j l) (p.layouts.none j l)
 
-    variant_at : (j : ℕ) → InText s (get_or b (33 + j) no_span) × (value_at s b (33 + j) ≡ get_or (fields x.variants) j [])
-    variant_at j =
-        field_at x.variants (length x.model + length x.layouts) j (33 + j) (lies_variants x) (good_text x.variants (fields x.variants) good_variants).1 (p.variant j)
-        (p.no_variant j)
+    variant_at : (j : ℕ) → j < 32 → InText s (get_or b (33 + j) no_span) × (value_at s b (33 + j) ≡ get_or (fields x.variants) j [])
+    variant_at j l =
+        field_at x.variants (length x.model + length x.layouts) j (33 + j) (lies_variants x) (good_text x.variants (fields x.variants) good_variants).1 (p.variants.here j l)
+        (p.variants.none j l)
 
     model_at : InText s (get_or b 0 no_span) × (value_at s b 0 ≡ x.model)
     unfolding value_at
@@ -301,7 +312,7 @@ module _ (x : Texts) (h : profile_refusals x ≡ []) where
       where
         by : (c : Bool) → ltb j 32 ≡ c → InText s (get_or b (suc j) no_span)
         by true z = let y : suc j ≡ 1 + j = omega arith in rw y (layout_at j (ltb-true j 32 z)).0
-        by false z = let k = ltb-false j 32 z in let y : suc j ≡ 33 + (j - 32) = omega arith in rw y (variant_at (j - 32)).0
+        by false z = let k = ltb-false j 32 z in let y : suc j ≡ 33 + (j - 32) = omega arith in rw y (variant_at (j - 32) (omega arith)).0
 
     pub values_of : ValuesOf x (four_texts x ++ (42 ∷ [])) b
     values_of =
@@ -309,7 +320,7 @@ module _ (x : Texts) (h : profile_refusals x ≡ []) where
           placed = record { size = p.size; place = place };
           model = model_at.1;
           layout = λ k l m. (let y : 0 + k ≡ 1 + (k - 1) = omega arith in ap (value_at s b) y ∙ (layout_at (k - 1) (omega arith)).1);
-          variant = λ k l m. (let y : 32 + k ≡ 33 + (k - 1) = omega arith in ap (value_at s b) y ∙ (variant_at (k - 1)).1);
+          variant = λ k l m. (let y : 32 + k ≡ 33 + (k - 1) = omega arith in ap (value_at s b) y ∙ (variant_at (k - 1) (omega arith)).1);
         }
 
 -- in a text that is made longer

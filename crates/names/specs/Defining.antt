@@ -1,18 +1,24 @@
 -- A group is defined. Document 01: "group defined twice, or a 65th": refusal 10.
-use Rattle.std.specs.Prelude.{◌+◌, ◌<◌, ◌≡◌, ◌∷◌, ◌++◌, true, ◌||◌, leb, Result, Err, IsOk, IsErr, length}
+use Rattle.std.specs.Prelude.{◌+◌, ◌-◌, ◌*◌, ◌≤◌, ◌<◌, ◌≡◌, ◌∷◌, ◌++◌, true, false, ◌||◌, leb, Result, Err, IsOk, IsErr, length}
 use Rattle.std.specs.Result.{is_err}
-use Rattle.text.specs.Limits.{most_groups}
-use Rattle.text.specs.Bytes.{Text, Words, rest, all_of}
+use Rattle.text.specs.Limits.{most_groups, longest_word}
+use Rattle.text.specs.Bytes.{Text, Words, same, rest, all_of, any_of}
 use Rattle.text.specs.declared.faults.Fault.{Fault}
 use Rattle.text.specs.declared.faults.Fault.TheVariants.{BadGroup}
 use Rattle.profile.specs.Profile.{Texts}
 use Rattle.rules.specs.Words.{ordinary}
 use Rattle.rules.specs.Faults.{Groups, defined}
-use Rattle.listing.specs.Lists.{text_of}
+use Rattle.listing.specs.Names.{text_size}
+use Rattle.listing.specs.Lists.{text_of, names_of}
 use Rattle.names.specs.declared.Row.{Row}
 use Rattle.names.specs.declared.Names.{Names}
 use Rattle.names.specs.Compiled.{Joined}
 use Rattle.names.specs.Ready.{Ready}
+
+-- A name that is not refused has room, and behind it the longest names of all groups that may still come.
+abbrev pub LeavesRoom : Text → Names → Type 0
+LeavesRoom w names = names.groups < most_groups → any_of (same w) (names_of names.table.list) ≡ false →
+    names.table.list.used + length w + (most_groups - (names.groups + 1)) * longest_word ≤ text_size
 
 -- The group of the name w, `$` with it, and of a row: refused, and nothing is changed; or the name is copied behind the text and listed. If the row is that of
 -- some words, there is one group more, with these words, for every profile and all groups that the names are held for.
@@ -20,6 +26,7 @@ pub record Defines (w : Text) (row : Row) (names names' : Names) (r : Result (Un
   pub kept : IsErr r → (names' ≡ names) × (r ≡ Err BadGroup)
   pub few : IsOk r → names.groups < most_groups
   pub number : IsOk r → names'.groups ≡ names.groups + 1
+  pub count : IsOk r → names'.table.list.count ≡ names.table.list.count + 1
   pub text : IsOk r → text_of names'.table.list ≡ text_of names.table.list ++ w
   pub values : (names'.bounds ≡ names.bounds) × (names'.layouts ≡ names.layouts)
   pub refusal : (x : Texts) (gs : Groups) → Ready x gs names → is_err r ≡ defined gs (rest w) || leb most_groups (length gs)

@@ -44,21 +44,35 @@ pub record FieldPlace (fs : List Text) (base j : ℕ) (p : Span) : Type 0 where
   pub starts : p.start ≡ base + field_start fs j
   pub stops : p.end ≡ p.start + length (get_or fs j [])
 
--- the fields have their places, from the value number `first` on; the other places are as they were
+-- the value of a number is empty, at a place of the text
+abbrev pub EmptyAt : ℕ → Span → Type 0
+EmptyAt at p = p ≡ record { start = at; end = at }
+
+-- 32 values are empty, from the number `first` on; the other places are as they were
+pub record Emptied (at first : ℕ) (b b' : List Span) : Type 0 where
+  pub size : length b' ≡ length b
+  pub here : (j : ℕ) → first ≤ j → j < first + 32 → EmptyAt at (get_or b' j no_span)
+  pub before : (i : ℕ) → i < first → get_or b' i no_span ≡ get_or b i no_span
+  pub beyond : (i : ℕ) → first + 32 ≤ i → get_or b' i no_span ≡ get_or b i no_span
+
+-- The first 32 fields have their places, from the value number `first` on; a value that has no field is empty, where the text ends.
+pub record FieldsAt (o : Text) (base first : ℕ) (b : List Span) : Type 0 where
+  pub here : (j : ℕ) → j < 32 → j < length (fields o) → FieldPlace (fields o) base j (get_or b (first + j) no_span)
+  pub none : (j : ℕ) → j < 32 → length (fields o) ≤ j → EmptyAt (base + length o) (get_or b (first + j) no_span)
+
+-- and the other places are as they were
 pub record FieldsPlaced (o : Text) (base first : ℕ) (b b' : List Span) : Type 0 where
   pub size : length b' ≡ length b
-  pub here : (j : ℕ) → j < length (fields o) → FieldPlace (fields o) base j (get_or b' (first + j) no_span)
+  pub placed : FieldsAt o base first b'
   pub before : (i : ℕ) → i < first → get_or b' i no_span ≡ get_or b i no_span
-  pub beyond : (i : ℕ) → first + length (fields o) ≤ i → get_or b' i no_span ≡ get_or b i no_span
+  pub beyond : (i : ℕ) → first + 32 ≤ i → get_or b' i no_span ≡ get_or b i no_span
 
 -- the model, 32 layouts and 32 variants have theirs
 pub record ValuesPlaced (x : Texts) (b : List Span) : Type 0 where
   pub size : length b ≡ most_values
   pub model : get_or b 0 no_span ≡ record { start = 0; end = length x.model }
-  pub layout : (j : ℕ) → j < length (fields x.layouts) → FieldPlace (fields x.layouts) (length x.model) j (get_or b (1 + j) no_span)
-  pub variant : (j : ℕ) → j < length (fields x.variants) → FieldPlace (fields x.variants) (length x.model + length x.layouts) j (get_or b (33 + j) no_span)
-  pub no_layout : (j : ℕ) → length (fields x.layouts) ≤ j → j < 32 → get_or b (1 + j) no_span ≡ no_span
-  pub no_variant : (j : ℕ) → length (fields x.variants) ≤ j → get_or b (33 + j) no_span ≡ no_span
+  pub layouts : FieldsAt x.layouts (length x.model) 1 b
+  pub variants : FieldsAt x.variants (length x.model + length x.layouts) 33 b
 
 -- 0 is in the set, and of the numbers 1 to 32 those whose value is not empty
 pub record SomeSet (b : List Span) (before r : ℕ) : Type 0 where

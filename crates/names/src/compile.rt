@@ -8,7 +8,7 @@ ghost use Rattle.listing.specs.Names.{most_names};
 ghost use Rattle.listing.specs.Lists.{text_of, names_of, bytes_at};
 ghost use Rattle.names.specs.Rows.{says};
 ghost use Rattle.names.specs.Marked.{value_asks, Marked};
-ghost use Rattle.names.specs.Placing.{ValuesPlaced, Lies, TextsCopied};
+ghost use Rattle.names.specs.Placing.{ShortTexts, ValuesPlaced, Lies, TextsCopied};
 ghost use Rattle.names.specs.Asked.{ValueRow, values_ask, options_ask, Begun, TableCompiled};
 
 use super::places::{place_values, some_set};
@@ -44,8 +44,8 @@ const OPTION: Row = Row {
 
 impl Table {
     // Forgets all names, and copies the four texts, one after the other, and `*`: the place of `*`.
-    fn copy_texts(&mut self, texts: &Texts) -> Span
-        requires { profile_refusals texts.now ≡ [] }
+    pub fn copy_texts(&mut self, texts: &Texts) -> Span
+        requires { ShortTexts texts.now }
         ensures { TextsCopied texts.now self.new result }
     {
         self.list.clear();

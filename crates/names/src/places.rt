@@ -1,22 +1,32 @@
 // The places of a profile's values in the names' text, and which of them are not empty.
-ghost use Rattle.std.specs.Prelude.{◌≡◌, ◌||◌, ◌&&◌, [], ℕ, ◌+◌, ◌*◌, ◌≤◌, ◌<◌, eqb, length};
+ghost use Rattle.std.specs.Prelude.{◌≡◌, ◌||◌, ◌&&◌, ℕ, ◌+◌, ◌*◌, ◌≤◌, ◌<◌, eqb, length};
 ghost use Rattle.text.specs.Limits.{longest_text};
-ghost use Rattle.profile.specs.Profile.{fields};
-ghost use Rattle.profile.specs.Refusals.{profile_refusals};
 ghost use Rattle.bitsets.specs.Sets.{is_in};
-ghost use Rattle.names.specs.Placing.{FieldsPlaced, ValuesPlaced, SomeSet};
+ghost use Rattle.names.specs.Placing.{Emptied, FieldsPlaced, ValuesPlaced, SomeSet};
 
 use bitsets::with;
 use profile::texts::Texts;
 use text::Span;
 
-// The places of a text's fields, from the value number `first` on, where the text stands from `base` on; the other places are left as they are.
+// 32 values are empty, from the number `first` on, each at `at`; the other places are left as they are.
+fn empty_places(at: usize, first: usize, bounds: &mut [Span; 65])
+    requires { first ≤ 33 }
+    ensures { Emptied at first bounds.old bounds.new }
+{
+    for j in first..first + 32 {
+        bounds[j] = Span { start: at, end: at };
+    }
+}
+
+// The places of a text's first 32 fields, from the value number `first` on, where the text stands from `base` on. A value that has no field is empty, where the text
+// ends; the other places are left as they are.
 fn place_fields(text: &[u8], base: usize, first: usize, bounds: &mut [Span; 65])
-    requires { (first + length (fields text.now) ≤ 65) × (base + length text.now ≤ 4 * longest_text) }
+    requires { (first ≤ 33) × (base + length text.now ≤ 4 * longest_text) }
     ensures { FieldsPlaced text.now base first bounds.old bounds.new }
 {
+    empty_places(base + text.len(), first, bounds);
     let mut start = base;
-    for (j, field) in text.split(|b| *b == b',').enumerate() {
+    for (j, field) in text.split(|b| *b == b',').take(32).enumerate() {
         let end = start + field.len();
         bounds[first + j] = Span { start, end };
         start = end + 1;
@@ -25,7 +35,7 @@ fn place_fields(text: &[u8], base: usize, first: usize, bounds: &mut [Span; 65])
 
 // The places of the model, 32 layouts and 32 variants, in the four texts one after the other.
 pub fn place_values(texts: &Texts) -> [Span; 65]
-    requires { profile_refusals texts.now ≡ [] }
+    requires { (length texts.now.model ≤ longest_text) × (length texts.now.layouts ≤ longest_text) × (length texts.now.variants ≤ longest_text) }
     ensures { ValuesPlaced texts.now result }
 {
     let mut bounds = [Span { start: 0, end: 0 }; 65];

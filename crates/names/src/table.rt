@@ -21,12 +21,12 @@ impl Table {
     ghost use Rattle.std.specs.Prelude.{false, ◌≤◌, ◌<◌, ◌+◌, ◌++◌};
     ghost use Rattle.text.specs.Bytes.{same, any_of};
     ghost use Rattle.listing.specs.Names.{text_size, most_names};
-    ghost use Rattle.listing.specs.Lists.{text_of, names_of, bytes_at, Empty};
-    ghost use Rattle.names.specs.Compiled.{Rowed, NewRow};
+    ghost use Rattle.listing.specs.Lists.{text_of, names_of, bytes_at};
+    ghost use Rattle.names.specs.Compiled.{Blank, Rowed, NewRow};
 
     // No name, and no text.
     pub fn new() -> Table
-        ensures { Empty result.list }
+        ensures { Blank result }
     {
         Table {
             list: Listing::new(),
@@ -36,6 +36,7 @@ impl Table {
     }
 
     // The row of a word: that of `*` at once, and the empty one for a word that is not listed.
+    #[inline(always)]
     pub fn row(&self, word: &[u8]) -> Row
         ensures { Rowed self.now word.now result }
     {

@@ -1,8 +1,11 @@
 -- What is promised of every resolve, over the definitions of document 01, and at the end over what the running resolve leaves. Each proof cites a law.
 -- `answer` is the answer of a resolve; `entry_answer` is that of the entry for C, which is lent a sheet for the lengths besides.
 use Rattle.std.specs.Prelude.{ℕ, ◌+◌, ◌*◌, ◌/◌, ◌%◌, ◌^◌, ◌≤◌, ◌<◌, ◌≡◌, List, [], ◌∷◌, ◌++◌, map, true, length, drop, get_or, replicate}
-use Rattle.std.proofs.Common.{sym, ap, ◌∙◌}
+use Rattle.std.proofs.Common.{refl, sym, ap, ◌∙◌, Ok, Err}
 use Rattle.text.specs.declared.Refusal.{Refusal}
+use Rattle.text.specs.declared.faults.Refusal.{Refusal as Refused}
+use Rattle.text.specs.Told.{number_of as fault_value}
+use Rattle.text.proofs.Told as told
 use Rattle.text.specs.Limits.{longest_file, longest_total, most_groups, most_layouts, most_options}
 use Rattle.text.specs.Bytes.{Text, bytes as word, apart}
 use Rattle.text.specs.Lines.{closed, crlf, no_return}
@@ -20,7 +23,8 @@ use Rattle.rules.specs.Faults.{Groups}
 use Rattle.answers.specs.Firings.{head_fires, file_firings}
 use Rattle.answers.specs.Components.{values_of, base, additions, updates}
 use Rattle.answers.specs.declared.Outcome.{Outcome}
-use Rattle.answers.specs.Answer.{Answer, refused, accepted, answer, ten_texts, sum, total, number_of, place_of, lengths_of, buffer_after, stretch_start, stretch_length, stretch, Answered, Resolved, texts_in}
+use Rattle.answers.specs.Told.{outcome_told}
+use Rattle.answers.specs.Answer.{Answer, refused, accepted, answer, ten_texts, sum, total, number_of, place_of, lengths_of, outcome, buffer_after, stretch_start, stretch_length, stretch, Answered, Resolved, texts_in}
 use Rattle.answers.specs.Joined.{together}
 use Rattle.answers.specs.Spellings.{Entry, all_heading, all_rule, any_heading, any_rule, Spelled, NoneEmpty}
 use Rattle.answers.proofs.Updates.{stepwise}
@@ -224,8 +228,8 @@ module _ (d f : Text) (t : Texts)
 pub line_ends_closed : (f : Text) → no_return f ≡ true → closed (crlf f) ≡ closed f
 line_ends_closed = crlf_closed
 
--- The same of the running resolve. The contract of `resolve` is `Resolved f t d d' r`: for the file f and the four texts t it answers r, and the buffer
--- goes from d to d'.
+-- The same of the running resolve. The contract of `resolve` is `Resolved f t d d' (outcome_told x)`: for the file f and the four texts t it gives x, a
+-- Result, which `outcome_told` tells as an outcome r, and the buffer goes from d to d'.
 
 -- Demand 1: a refusal has a number from 1 to 11 and ten zero lengths, "and the buffer then holds just what it held before".
 pub resolve_refused : (f : Text) (t : Texts) (d d' : Text) (r : Outcome) → Resolved f t d d' r → (r.number ≡ 0 → ⊥) →
@@ -241,6 +245,22 @@ resolve_accepted f t d d' r v h = let k = resolves.held f t d d' r v h in (k.pla
 pub resolve_strings : (f : Text) (t : Texts) (d d' : Text) (r : Outcome) → Resolved f t d d' r → r.number ≡ 0 → (c : ℕ) → c ≤ 4 →
     stretch d' r.lengths c ≡ base (values_of c (file_firings f (profile_of t))) ++ additions (values_of c (file_firings f (profile_of t)))
 resolve_strings = resolves.strings
+
+-- "When an answer is an enum, a definition states this paper's number and values for each of its cases": of an Err the fault's number and the place are the
+-- answer's, and the buffer holds just what it held before; of an Ok the lengths are those of the ten texts that the buffer then starts with.
+pub resolve_err : (f : Text) (t : Texts) (d d' : Text) (e : Refused) → Resolved f t d d' (outcome_told (Err e)) →
+    (fault_value e.fault ≡ number_of (answer (length d) f t)) × (e.place ≡ place_of (answer (length d) f t)) × (d' ≡ d)
+unfolding outcome
+resolve_err f t d d' e v =
+    (ap (λ (r : Outcome). r.number) v.result, ap (λ (r : Outcome). r.place) v.result, (resolves.kept f t d d' _ v (told.number_some e.fault)).buffer)
+
+pub resolve_ok : (f : Text) (t : Texts) (d d' : Text) (ns : List ℕ) → Resolved f t d d' (outcome_told (Ok ns)) →
+    (0 ≡ number_of (answer (length d) f t)) × (ns ≡ lengths_of (answer (length d) f t)) ×
+    (texts_in d' ns ≡ ten_texts f t) × (drop (sum ns) d' ≡ drop (sum ns) d) × (length d' ≡ length d)
+unfolding outcome
+resolve_ok f t d d' ns v =
+    let k = resolves.held f t d d' _ v refl in
+    (ap (λ (r : Outcome). r.number) v.result, ap (λ (r : Outcome). r.lengths) v.result, k.texts, k.later, k.size)
 
 -- Nothing is remembered between two resolves: the same file, texts and buffer give the same answer and the same bytes.
 pub resolve_again : (f : Text) (t : Texts) (d c' : Text) (x : Outcome) (e' : Text) (y : Outcome) → Resolved f t d c' x → Resolved f t d e' y → (x ≡ y) × (c' ≡ e')

@@ -48,8 +48,8 @@ module _ (s : Text) (names₀ : Names) (w₀ : Text) (q₀ : Cursors) where
     pub sound : Sound s names x w r
     pub reads : (p : Texts) → HoldsProfile names₀ p → ReadTo w₀ q₀ s names w p r
 
-  pub reads_start : length w₀ ≤ farthest → Low q₀.at → (x : Text) → length x ≡ 8192 → (r : Reading) → Started q₀ r → Reads names₀ x w₀ r
-  reads_start e l x z r u =
+  pub reads_start : names₀.layouts < 10 → length w₀ ≤ farthest → Low q₀.at → (x : Text) → length x ≡ 8192 → (r : Reading) → Started q₀ r → Reads names₀ x w₀ r
+  reads_start few e l x z r u =
       rw u.is
       (record {
         scratch = z;
@@ -68,7 +68,7 @@ module _ (s : Text) (names₀ : Names) (w₀ : Text) (q₀ : Cursors) where
               fires =
                   record {
                     some = names₀.counted.0;
-                    digit = omega (arith, names₀.counted.1);
+                    digit = few;
                     layout = omega arith;
                     room = omega (arith, z);
                     scratch = omega (arith, z);

@@ -27,7 +27,7 @@ use Rattle.rules.proofs.CheckSteps.{entry_any}
 use Rattle.firing.specs.Writing.{run_buf, run_cur}
 use Rattle.names.specs.declared.Names.{Names}
 use Rattle.names.specs.Ready.{Ready}
-use Rattle.names.specs.Defining.{Defines}
+use Rattle.names.specs.Defining.{LeavesRoom, Defines}
 use Rattle.judging.specs.declared.FirstWord.{FirstWord}
 use Rattle.judging.specs.declared.GroupLine.{GroupLine}
 use Rattle.judging.specs.Groups.{DollarFound, DollarWord, line_words, members_in, GroupLineOf}
@@ -103,8 +103,11 @@ module _ (s : Text) (names : Names) (r : Reading) (x : FirstWord) (h : AtGroup s
     entry : entry_of (line_of r.at.line true (line_words s x)) ≡ group (rest name) (members_in s x)
     entry = entry_any r.at.line true (line_words s x) ∙ (v.right z).0
 
-    pub name_short : length name ≤ longest_word
+    name_short : length name ≤ longest_word
     name_short = group_short name (left s x.end.at) _ _ (v.right z).0
+
+    pub leaves_room : LeavesRoom name names
+    leaves_room few fresh = omega (arith, names.room, name_short)
 
     module _ (names' : Names) (e : Result (Unit {0}) Fault) (q : Defines name g.row names names' e) where
       pub group_twice : (f : Fault) → e ≡ Err f → HeadRead s names names' r r (Err (record { fault = f; place = r.at.line }))

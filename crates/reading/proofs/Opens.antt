@@ -68,7 +68,7 @@ module _ (h : SetHeading) (n : ℕ) (sized : SetSized h) (one : FromOne h.index)
       (record {
         held =
             record {
-              seekable = record { columns = rw (columns_length h) sized.some; left = rw e h.columns.few; right = rw e h.components.few; heading = λ y. absurd (y refl) };
+              seekable = record { columns = rw (columns_length h) sized.some; left = rw e sized.left; right = rw e h.components.few; heading = λ y. absurd (y refl) };
               among = λ j k a b. absurd (omega arith);
               all = record { all = λ y. absurd (no y) };
               some = some;
@@ -106,7 +106,7 @@ module _ (h : SetHeading) (n : ℕ) (sized : SetSized h) (one : FromOne h.index)
                 seekable =
                     record {
                       columns = rw (columns_length h) sized.some;
-                      left = rw e h.columns.few;
+                      left = rw e sized.left;
                       right = rw e h.components.few;
                       heading = λ y. e ∙ present_is h;
                     };

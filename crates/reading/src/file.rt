@@ -1,5 +1,5 @@
 // A file read to its end, or to its first refused line.
-ghost use Rattle.std.specs.Prelude.{◌≡◌, ◌≤◌, length};
+ghost use Rattle.std.specs.Prelude.{◌≡◌, ◌≤◌, ◌<◌, length};
 ghost use Rattle.output.specs.Store.{farthest};
 ghost use Rattle.rules.specs.Held.{heading_by};
 ghost use Rattle.firing.specs.Writing.{Low};
@@ -28,7 +28,7 @@ fn no_set() -> SetHeading
     SetHeading {
         columns: Listing {
             count: 1,
-            items: [Column::Model; 4],
+            items: [Column::Model; 5],
         },
         index: Index::Absent,
         components: Listing {
@@ -128,7 +128,7 @@ pub fn read_file(
     buf: &mut [u8],
     q: Cursors,
 ) -> Result<Cursors, Refusal>
-    requires { (length buf.old ≤ farthest) × Low q.at }
+    requires { (names.old.layouts < 10) × (length buf.old ≤ farthest) × Low q.at }
     ensures { FileReadOf src.now.bytes.now names.old buf.old buf.new q result }
 {
     let mut scratch = [0; 8192];

@@ -37,7 +37,7 @@ pub fn left_word(src: &Source, x: LeftWords, column: Column, names: &Names) -> L
     requires { Within src.now.bytes.now x.end.at x.end.line }
     ensures { LeftHeld names.now.table column src.now.bytes.now x result }
 {
-    match src.word_at(x.end) {
+    match src.next_word(x.end) {
         Next::Found {
             start,
             end,

@@ -1,20 +1,18 @@
 -- Words that are a keyword, or begin with one, by their length and bytes.
-use Prim.Native.Nat.{ℕ, suc, ◌-◌}
+use Prim.Native.Nat.{ℕ, suc, ◌-◌, ◌<◌}
 use native.Mathlib.Omega.{arith}
-use mathlib.Core.Path.{◌≡◌, refl, sym, ap, ◌∙◌}
+use mathlib.Core.Path.{◌≡◌, refl, ap}
 use mathlib.Core.List.{[], ◌∷◌}
 use mathlib.Core.Bool.{Bool, true, false, ◌&&◌, cond, and-true, and-false}
-use lib.ListN.{length, get_or, take, drop}
+use lib.ListN.{length, get_or, take, drop, length-take}
 use lib.Dec.{eqb, leb}
 use borrow.Author.Tests.{ne_eqb}
-use Rattle.std.specs.Prelude.{nat_eq, Option, Some, None, option_map}
-use Rattle.std.specs.Cmp.Lexicographic.{pointwise}
+use Rattle.std.specs.Prelude.{Some, None, option_map}
 use Rattle.std.proofs.lemmas.Bool.Decides.{nat_tests}
 use Rattle.text.specs.Bytes.{Text, bytes, same}
 use Rattle.text.specs.Limits.{most_layouts}
-use Rattle.text.proofs.Lists.{same_eq}
+use Rattle.text.proofs.Comparing.{same_length}
 use Rattle.rules.specs.declared.Index.TheVariants as index
-use Rattle.rules.specs.declared.Item.{Item}
 use Rattle.rules.specs.declared.Item.TheVariants as item
 use Rattle.rules.specs.Headings.{decimal, up_from, numbered_in, index_of, left_item, component_of}
 use Rattle.rules.specs.Sets.{known_component}
@@ -54,27 +52,16 @@ five_ways false false false true e = refl
 five_ways false false false false true = refl
 five_ways false false false false false = refl
 
+-- the tests of the words, in their order
 pub component_reads : (w : Text) → known_component (component_of w) ≡
-    cond (eqb (length w) 8 && reads w (107 ∷ 101 ∷ 121 ∷ 99 ∷ 111 ∷ 100 ∷ 101 ∷ 115 ∷ []) 0) (Some 0)
-    (cond (eqb (length w) 5 && reads w (116 ∷ 121 ∷ 112 ∷ 101 ∷ 115 ∷ []) 0) (Some 1)
-    (cond (eqb (length w) 6 && reads w (99 ∷ 111 ∷ 109 ∷ 112 ∷ 97 ∷ 116 ∷ []) 0) (Some 2)
-    (cond (eqb (length w) 7 && reads w (115 ∷ 121 ∷ 109 ∷ 98 ∷ 111 ∷ 108 ∷ 115 ∷ []) 0) (Some 3)
-    (cond (eqb (length w) 8 && reads w (103 ∷ 101 ∷ 111 ∷ 109 ∷ 101 ∷ 116 ∷ 114 ∷ 121 ∷ []) 0) (Some 4)
+    cond (same w (107 ∷ 101 ∷ 121 ∷ 99 ∷ 111 ∷ 100 ∷ 101 ∷ 115 ∷ [])) (Some 0)
+    (cond (same w (116 ∷ 121 ∷ 112 ∷ 101 ∷ 115 ∷ [])) (Some 1)
+    (cond (same w (99 ∷ 111 ∷ 109 ∷ 112 ∷ 97 ∷ 116 ∷ [])) (Some 2)
+    (cond (same w (115 ∷ 121 ∷ 109 ∷ 98 ∷ 111 ∷ 108 ∷ 115 ∷ [])) (Some 3)
+    (cond (same w (103 ∷ 101 ∷ 111 ∷ 109 ∷ 101 ∷ 116 ∷ 114 ∷ 121 ∷ [])) (Some 4)
     None))))
 unfolding known_component component_of bytes
-component_reads w =
-    rw (
-      same_reads w (bytes "keycodes"),
-      same_reads w (bytes "types"),
-      same_reads w (bytes "compat"),
-      same_reads w (bytes "symbols"),
-      same_reads w (bytes "geometry"),
-    )
-    (five_ways _ _ _ _ _)
-
--- the longest walk along a keyword that then fails, at the last byte of `geometry`
-pub component_last : (w : Text) → length w ≡ 8 → get_or w 0 0 ≡ 103 → (get_or w 7 0 ≡ 121 → ⊥) → None ≡ known_component (component_of w)
-component_last w l a n = sym (component_reads w ∙ rw (l, a, ne_eqb (get_or w 7 0) 121 n) (simp and-false))
+component_reads w = five_ways _ _ _ _ _
 
 -- `[1]` to `[4]`
 
@@ -89,7 +76,7 @@ digit d true false b = refl
 digit d true true false = simp and-false
 digit d true true true = grind (arith, nat_tests)
 
-numbered_reads : (w : Text) → numbered_in w (up_from most_layouts 1) ≡
+pub numbered_reads : (w : Text) → numbered_in w (up_from most_layouts 1) ≡
     cond (eqb (length w) 3 && (eqb (get_or w 0 0) 91 && (leb 49 (get_or w 1 0) && (leb (get_or w 1 0) 52 && eqb (get_or w 2 0) 93))))
     (Some (index.Numbered (get_or w 1 0 - 48))) None
 unfolding numbered_in up_from decimal
@@ -99,58 +86,24 @@ numbered_reads w =
 
 pub index_reads : (w : Text) → index_of w ≡
     cond (eqb (length w) 0) (Some index.Absent)
-    (cond (eqb (length w) 8 && reads w (91 ∷ 115 ∷ 105 ∷ 110 ∷ 103 ∷ 108 ∷ 101 ∷ 93 ∷ []) 0) (Some index.Single)
-    (cond (eqb (length w) 7 && reads w (91 ∷ 102 ∷ 105 ∷ 114 ∷ 115 ∷ 116 ∷ 93 ∷ []) 0) (Some index.First)
-    (cond (eqb (length w) 7 && reads w (91 ∷ 108 ∷ 97 ∷ 116 ∷ 101 ∷ 114 ∷ 93 ∷ []) 0) (Some index.Later)
-    (cond (eqb (length w) 5 && reads w (91 ∷ 97 ∷ 110 ∷ 121 ∷ 93 ∷ []) 0) (Some index.Any)
-    (cond (eqb (length w) 3 && (eqb (get_or w 0 0) 91 && (leb 49 (get_or w 1 0) && (leb (get_or w 1 0) 52 && eqb (get_or w 2 0) 93))))
-    (Some (index.Numbered (get_or w 1 0 - 48))) None)))))
+    (cond (same w (91 ∷ 115 ∷ 105 ∷ 110 ∷ 103 ∷ 108 ∷ 101 ∷ 93 ∷ [])) (Some index.Single)
+    (cond (same w (91 ∷ 102 ∷ 105 ∷ 114 ∷ 115 ∷ 116 ∷ 93 ∷ [])) (Some index.First)
+    (cond (same w (91 ∷ 108 ∷ 97 ∷ 116 ∷ 101 ∷ 114 ∷ 93 ∷ [])) (Some index.Later)
+    (cond (same w (91 ∷ 97 ∷ 110 ∷ 121 ∷ 93 ∷ [])) (Some index.Any)
+    (numbered_in w (up_from most_layouts 1))))))
 unfolding index_of bytes
-index_reads w =
-    rw (
-      same_reads w [],
-      same_reads w (bytes "[single]"),
-      same_reads w (bytes "[first]"),
-      same_reads w (bytes "[later]"),
-      same_reads w (bytes "[any]"),
-      numbered_reads w,
-      and-true (eqb (length w) 0),
-    )
-    refl
+index_reads w = rw (same_reads w [], and-true (eqb (length w) 0)) refl
 
 -- a left item
 
-pub pointwise_same : (s t : Text) → pointwise nat_eq s t ≡ same s t
-unfolding same
-pointwise_same [] [] = refl
-pointwise_same [] (c ∷ t) = refl
-pointwise_same (b ∷ s) [] = refl
-pointwise_same (b ∷ s) (c ∷ t) = ap (λ (x : Bool). eqb b c && x) (pointwise_same s t)
+pub begins_short : (w k : Text) → length w < length k → same (take (length k) w) k ≡ false
+begins_short w k h = same_length (take (length k) w) k (λ e. omega (arith, e, length-take (length k) w))
 
-eqb_swap : (a b : ℕ) → eqb a b ≡ eqb b a
-eqb_swap a b = grind (arith, nat_tests)
-
-pub pointwise_back : (s t : Text) → pointwise nat_eq s t ≡ same t s
-unfolding same
-pointwise_back [] [] = refl
-pointwise_back [] (c ∷ t) = refl
-pointwise_back (b ∷ s) [] = refl
-pointwise_back (b ∷ s) (c ∷ t) = rw (eqb_swap b c, pointwise_back s t) refl
-
--- `layout` and `variant` first
-abbrev reordered : Text → Option Item
-reordered w =
-    cond (same (take 6 w) (108 ∷ 97 ∷ 121 ∷ 111 ∷ 117 ∷ 116 ∷ [])) (option_map item.Layout (index_of (drop 6 w)))
+pub left_reads : (w : Text) → left_item w ≡
+    cond (same w (109 ∷ 111 ∷ 100 ∷ 101 ∷ 108 ∷ [])) (Some item.Model)
+    (cond (same w (111 ∷ 112 ∷ 116 ∷ 105 ∷ 111 ∷ 110 ∷ [])) (Some item.Options)
+    (cond (same (take 6 w) (108 ∷ 97 ∷ 121 ∷ 111 ∷ 117 ∷ 116 ∷ [])) (option_map item.Layout (index_of (drop 6 w)))
     (cond (same (take 7 w) (118 ∷ 97 ∷ 114 ∷ 105 ∷ 97 ∷ 110 ∷ 116 ∷ [])) (option_map item.Variant (index_of (drop 7 w)))
-    (cond (eqb (length w) 5 && reads w (109 ∷ 111 ∷ 100 ∷ 101 ∷ 108 ∷ []) 0) (Some item.Model)
-    (cond (eqb (length w) 6 && reads w (111 ∷ 112 ∷ 116 ∷ 105 ∷ 111 ∷ 110 ∷ []) 0) (Some item.Options)
     None)))
-
-pub left_reads : (w : Text) → left_item w ≡ reordered w
-unfolding left_item bytes same
-left_reads w = go (same w (bytes "model")) refl (same w (bytes "option")) refl
-  where
-    go : (m : Bool) → same w (bytes "model") ≡ m → (o : Bool) → same w (bytes "option") ≡ o → left_item w ≡ reordered w
-    go true d o e = rw (same_eq w (bytes "model") d) refl
-    go false d true e = rw (same_eq w (bytes "option") e) refl
-    go false d false e = rw (d, e, sym (same_reads w (bytes "model")) ∙ d, sym (same_reads w (bytes "option")) ∙ e) refl
+unfolding left_item bytes
+left_reads w = refl

@@ -4,7 +4,7 @@ use native.Mathlib.Omega.{arith}
 use mathlib.Core.Path.{◌≡◌, refl, sym, ap, ◌∙◌}
 use mathlib.Core.List.{List, [], ◌∷◌, ◌++◌}
 use mathlib.Core.Bool.{Bool, true, false, cond}
-use lib.ListN.{take, drop, get_or, take-append-drop}
+use lib.ListN.{length, take, drop, get_or, take-append-drop}
 use Rattle.std.specs.Prelude.{Option, Some, None, option_map}
 use Rattle.text.specs.Bytes.{Text, bytes, same}
 use Rattle.text.specs.Limits.{most_layouts}
@@ -89,6 +89,22 @@ mapped : (m : Index → Item) → ((i j : Index) → m i ≡ m j → i ≡ j) �
 mapped m f None i h = cc
 mapped m f (Some j) i h = let e : m j ≡ m i = cc in ap Some (f j i e)
 
+unmapped : (m : Index → Item) → (o : Option Index) → option_map m o ≡ None → o ≡ None
+unmapped m None h = refl
+unmapped m (Some j) h = cc
+
+layout_front : (u : Text) → take (length (bytes "layout")) (bytes "layout" ++ u) ≡ bytes "layout"
+unfolding bytes
+layout_front u = refl
+
+variant_front : (u : Text) → take (length (bytes "variant")) (bytes "variant" ++ u) ≡ bytes "variant"
+unfolding bytes
+variant_front u = refl
+
+-- a text that begins with a word, whole
+fronted : (t w : Text) → take (length w) t ≡ w → t ≡ w ++ drop (length w) t
+fronted t w e = sym (take-append-drop (length w) t) ∙ ap (λ (u : Text). u ++ drop (length w) t) e
+
 module _ (t : Text) where
   component_at : (k : ℕ) → k < 5 → component_of t ≡ k →
       get_or (same t (bytes "keycodes") ∷ same t (bytes "types") ∷ same t (bytes "compat") ∷ same t (bytes "symbols") ∷ same t (bytes "geometry") ∷ []) k false ≡ true
@@ -119,26 +135,52 @@ module _ (t : Text) where
   index_word : (w : Text) (i : Option Index) → (index_rank (index_of t) ≡ index_rank i → same t w ≡ true) → index_of w ≡ i → Just (index_of t ≡ i) (t ≡ w)
   index_word w i f e = record { only = λ h. same_eq t w (f (ap index_rank h)); there = λ q. ap index_of q ∙ e }
 
-  layout_word : ((i : Index) → Just (left_item t ≡ Some (item.Layout i)) (Before (bytes "layout") (Some i) t)) × (Before (bytes "layout") None t → left_item t ≡ None)
+  layout_word : ((i : Index) → Just (left_item t ≡ Some (item.Layout i)) (Before (bytes "layout") (Some i) t)) ×
+      Just ((left_item t ≡ None) × (take (length (bytes "layout")) t ≡ bytes "layout")) (Before (bytes "layout") None t)
   unfolding item_rank
   layout_word = (
     λ i. record { only = only i; there = λ b. ap left_item b.whole ∙ (layout_here b.rest ∙ ap (option_map item.Layout) b.after) },
-    λ b. ap left_item b.whole ∙ (layout_here b.rest ∙ ap (option_map item.Layout) b.after),
+    record {
+      only = λ h. unknown h.0 h.1;
+      there = λ b. (
+        ap left_item b.whole ∙ (layout_here b.rest ∙ ap (option_map item.Layout) b.after),
+        ap (take (length (bytes "layout"))) b.whole ∙ layout_front b.rest,
+      );
+    },
   )
     where
+      unknown : left_item t ≡ None → take (length (bytes "layout")) t ≡ bytes "layout" → Before (bytes "layout") None t
+      unknown h e =
+          let u = drop (length (bytes "layout")) t in
+          let q : t ≡ bytes "layout" ++ u = fronted t (bytes "layout") e in
+          record { rest = u; whole = q; after = unmapped item.Layout (index_of u) (sym (layout_here u) ∙ (ap left_item (sym q) ∙ h)) }
+
       only : (i : Index) → left_item t ≡ Some (item.Layout i) → Before (bytes "layout") (Some i) t
       only i h =
           let e = same_eq (take 6 t) (bytes "layout") (item_at 2 (omega arith) (ap item_rank h)) in
           let q : t ≡ bytes "layout" ++ drop 6 t = sym (take-append-drop 6 t) ∙ ap (λ (u : Text). u ++ drop 6 t) e in
           record { rest = drop 6 t; whole = q; after = mapped item.Layout (λ i j e. cc) (index_of (drop 6 t)) i (sym (layout_here (drop 6 t)) ∙ (ap left_item (sym q) ∙ h)) }
 
-  variant_word : ((i : Index) → Just (left_item t ≡ Some (item.Variant i)) (Before (bytes "variant") (Some i) t)) × (Before (bytes "variant") None t → left_item t ≡ None)
+  variant_word : ((i : Index) → Just (left_item t ≡ Some (item.Variant i)) (Before (bytes "variant") (Some i) t)) ×
+      Just ((left_item t ≡ None) × (take (length (bytes "variant")) t ≡ bytes "variant")) (Before (bytes "variant") None t)
   unfolding item_rank
   variant_word = (
     λ i. record { only = only i; there = λ b. ap left_item b.whole ∙ (variant_here b.rest ∙ ap (option_map item.Variant) b.after) },
-    λ b. ap left_item b.whole ∙ (variant_here b.rest ∙ ap (option_map item.Variant) b.after),
+    record {
+      only = λ h. unknown h.0 h.1;
+      there = λ b. (
+        ap left_item b.whole ∙ (variant_here b.rest ∙ ap (option_map item.Variant) b.after),
+        ap (take (length (bytes "variant"))) b.whole ∙ variant_front b.rest,
+      );
+    },
   )
     where
+      unknown : left_item t ≡ None → take (length (bytes "variant")) t ≡ bytes "variant" → Before (bytes "variant") None t
+      unknown h e =
+          let u = drop (length (bytes "variant")) t in
+          let q : t ≡ bytes "variant" ++ u = fronted t (bytes "variant") e in
+          record { rest = u; whole = q; after = unmapped item.Variant (index_of u) (sym (variant_here u) ∙ (ap left_item (sym q) ∙ h)) }
+
       only : (i : Index) → left_item t ≡ Some (item.Variant i) → Before (bytes "variant") (Some i) t
       only i h =
           let e = same_eq (take 7 t) (bytes "variant") (item_at 3 (omega arith) (ap item_rank h)) in

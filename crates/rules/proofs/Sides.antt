@@ -282,7 +282,7 @@ module _ (ls : List (Option Item)) (s : LeftSide) (v : LeftHeld ls s) (x : Item)
   size : length cs ≡ s.columns.count
   size = sym (ap length v.columns) ∙ length-take-le s.columns.count s.columns.items (omega (arith, s.columns.few, s.columns.sized))
 
-  distinct_full : s.columns.count ≡ 4 → distinct (map column_number (cs ++ columns_in (Some x))) ≡ false
+  distinct_full : s.columns.count ≡ 5 → distinct (map column_number (cs ++ columns_in (Some x))) ≡ false
   distinct_full f = go (distinct (map column_number (cs ++ columns_in (Some x)))) refl
     where
       go : (t : Bool) → distinct (map column_number (cs ++ columns_in (Some x))) ≡ t → t ≡ false
@@ -292,7 +292,7 @@ module _ (ls : List (Option Item)) (s : LeftSide) (v : LeftHeld ls s) (x : Item)
           absurd (omega (arith, l, n, size))
       go false d = refl
 
-  pub column_bad : (s.columns.count ≡ 4) ⊎ (list_any (λ y. columns.ghosts.eq y c) (take s.columns.count s.columns.items) ≡ true) →
+  pub column_bad : (s.columns.count ≡ 5) ⊎ (list_any (λ y. columns.ghosts.eq y c) (take s.columns.count s.columns.items) ≡ true) →
       left_good (ls ++ (Some x ∷ [])) ≡ false
   unfolding known_item
   column_bad h =
@@ -306,7 +306,7 @@ module _ (ls : List (Option Item)) (s : LeftSide) (v : LeftHeld ls s) (x : Item)
       let k : alike (is ++ indexes_in (Some x)) ≡ false = rw (← d) (alike_more is i j h (left_parts ls v.good).indexes ∙ index_ne i j n) in
       left_snoc ls (Some x) ∙ rw (k, and-false (distinct (map column_number (cs ++ columns_in (Some x))))) (and-false (all_of known_item ls && true))
 
-  module _ (l : Listing Column 4) (t : list_any (λ y. columns.ghosts.eq y c) (take s.columns.count s.columns.items) ≡ false)
+  module _ (l : Listing Column 5) (t : list_any (λ y. columns.ghosts.eq y c) (take s.columns.count s.columns.items) ≡ false)
       (k : take l.count l.items ≡ take s.columns.count s.columns.items ++ (c ∷ [])) where
     held : (o : Option Index) → alike (is ++ indexes_in (Some x)) ≡ true → option_to_list o ≡ take 1 (is ++ indexes_in (Some x)) →
         LeftHeld (ls ++ (Some x ∷ [])) (record { columns = l; index = o })

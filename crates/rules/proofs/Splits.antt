@@ -1,10 +1,10 @@
 -- The words of a line, counted and placed one by one.
-use Prim.Native.Nat.{ℕ, zero, suc, ◌+◌, ◌≤◌, ◌<◌}
+use Prim.Native.Nat.{ℕ, zero, suc, ◌+◌, ◌-◌, ◌≤◌, ◌<◌}
 use native.Mathlib.Omega.{arith}
 use native.Mathlib.Nat.{add-zero, zero-add}
 use mathlib.Core.Path.{◌≡◌, refl, sym, ap, ◌∙◌}
 use mathlib.Core.List.{List, [], ◌∷◌}
-use mathlib.Core.Bool.{Bool, true, false, ◌||◌, cond, or_assoc, or-false}
+use mathlib.Core.Bool.{Bool, true, false, ◌||◌, ◌&&◌, cond, and_assoc, or_assoc, or-false}
 use lib.ListN.{length, get_or, drop, set, length-set}
 use lib.Dec.{ltb}
 use borrow.Author.Tests.{ltb-true, ltb-false}
@@ -12,13 +12,13 @@ use Rattle.std.specs.Prelude.{Option, Some, None}
 use Rattle.std.proofs.Common.{get_or-set_same, get_or-set_other}
 use Rattle.text.specs.declared.Span.{Span}
 use Rattle.text.specs.declared.faults.Fault.{Fault}
-use Rattle.text.specs.Bytes.{Text, Words, any_of, part}
+use Rattle.text.specs.Bytes.{Text, Words, any_of, all_of, part}
 use Rattle.text.specs.Words.{words_fault}
 use Rattle.text.specs.Told.{fault_number}
 use Rattle.text.specs.Reading.{left, ahead, lower, FoundWord, NoWord}
 use Rattle.text.proofs.Readers.{lower_zero, lower_none, lower_assoc, fault_cons, fault_nil}
 use Rattle.rules.specs.declared.Tally.{Tally}
-use Rattle.rules.specs.Words.{is_equals}
+use Rattle.rules.specs.Words.{is_equals, ordinary}
 use Rattle.rules.specs.Entries.{before, after}
 use Rattle.rules.specs.Splitting.{words_of, equals_after, tallied, counted, Tallied, no_span, stored, IsWord, Placed, IsSplit}
 
@@ -29,7 +29,7 @@ tallies h t [] = t
 tallies h t (w ∷ ws) = tallies h (counted h t w) ws
 
 abbrev pub nothing : Tally
-nothing = record { count = 0; equals = None; again = false }
+nothing = record { count = 0; equals = None; again = false; plain = true }
 
 tallies_nil : (h : Bool) (t : Tally) → tallies h t [] ≡ t
 unfolding tallies
@@ -105,6 +105,31 @@ again_all t (w ∷ ws) h k = go (is_equals w) refl (again_all (tallied t w) ws)
     go true e ih = again_met (tallied t w) t.count ws (rw (h, e)) ∙ rw (h, k, e)
     go false e ih = ih (rw (h, e)) (rw (h, k)) ∙ rw e
 
+plain_all : (t : Tally) (ws : Words) → (tallies true t ws).plain ≡ (t.plain && all_of ordinary (drop (2 - t.count) ws))
+unfolding tallies counted tallied all_of
+plain_all t [] = drop_none (2 - t.count)
+  where
+    go : (b : Bool) → b ≡ (b && true)
+    go true = refl
+    go false = refl
+
+    drop_none : (k : ℕ) → t.plain ≡ (t.plain && all_of ordinary (drop k []))
+    drop_none zero = go t.plain
+    drop_none (suc k) = go t.plain
+plain_all t (w ∷ ws) = go (ltb t.count 2) refl (plain_all (tallied t w) ws)
+  where
+    go : (b : Bool) → ltb t.count 2 ≡ b → (tallies true (tallied t w) ws).plain ≡ ((tallied t w).plain && all_of ordinary (drop (2 - (tallied t w).count) ws)) →
+        (tallies true (tallied t w) ws).plain ≡ (t.plain && all_of ordinary (drop (2 - t.count) (w ∷ ws)))
+    go true e ih =
+        let l : t.count < 2 = ltb-true _ _ e in
+        let q : 2 - t.count ≡ suc (2 - (t.count + 1)) = omega arith in
+        ih ∙ rw (e, q)
+    go false e ih =
+        let l : 2 ≤ t.count = ltb-false _ _ e in
+        let q : 2 - t.count ≡ 0 = omega arith in
+        let r : 2 - (t.count + 1) ≡ 0 = omega arith in
+        ih ∙ rw (e, q, r) (and_assoc t.plain (ordinary w) (all_of ordinary ws))
+
 tallied_all : (ws : Words) (t : Tally) → t ≡ tallies true nothing ws → Tallied ws t
 tallied_all ws t e =
     let q : t.equals ≡ found 0 ws = ap (λ (x : Tally). x.equals) e ∙ equals_all nothing ws refl in
@@ -113,6 +138,7 @@ tallied_all ws t e =
       none = λ h. found_none 0 ws (sym q ∙ h);
       first = λ n h. found_some 0 n ws (sym q ∙ h) ∙ zero-add (length (before ws));
       again = ap (λ (x : Tally). x.again) e ∙ again_all nothing ws refl refl;
+      plain = ap (λ (x : Tally). x.plain) e ∙ plain_all nothing ws;
     }
 
 -- places

@@ -9,9 +9,10 @@ unfoldable pub heading_by : SetHeading → Heading
 heading_by r =
     record { columns = take r.columns.count r.columns.items; index = r.index; components = take r.components.count r.components.items }
 
--- a heading has a column
+-- a heading has a column, and no more than there are
 pub record SetSized (h : SetHeading) : Type 0 where
   pub some : 1 ≤ h.columns.count
+  pub left : h.columns.count ≤ 4
 
 -- `[k]` counts from 1
 abbrev pub FromOne : Index → Type 0

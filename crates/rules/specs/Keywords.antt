@@ -1,5 +1,5 @@
 -- The thirteen words of a set heading, and where each is recognised. Document 02, #104.
-use Rattle.std.specs.Prelude.{ℕ, ◌≡◌, List, [], ◌∷◌, ◌++◌, Option, Some, None}
+use Rattle.std.specs.Prelude.{ℕ, ◌≡◌, List, [], ◌∷◌, ◌++◌, Option, Some, None, length, take}
 use Prim.Native.String.{String}
 use Rattle.text.specs.Bytes.{Text, bytes}
 use Rattle.rules.specs.declared.Index.{Index}
@@ -50,11 +50,14 @@ pub record Before (w : Text) (i : Option Index) (t : Text) : Type 0 where
   pub whole : t ≡ w ++ rest
   pub after : index_of rest ≡ i
 
--- "recognised exactly where its own bytes stand": the text t is given the meaning just where it is the word w; with what follows `layout` or `variant`
--- as its index, and none where no index follows; an index word with its brackets
+-- "recognised exactly where its own bytes stand": the text t is given the meaning just where it is the word w; with what
+-- follows `layout` or `variant` as its index, and none just where it begins so and no index follows; an index word with its
+-- brackets
 unfoldable pub Exactly : Meaning → Text → Text → Type 0
 Exactly (left m) w t = Just (left_item t ≡ Some m) (t ≡ w)
-Exactly (left_before m) w t = ((i : Index) → Just (left_item t ≡ Some (m i)) (Before w (Some i) t)) × (Before w None t → left_item t ≡ None)
+Exactly (left_before m) w t =
+    ((i : Index) → Just (left_item t ≡ Some (m i)) (Before w (Some i) t)) ×
+    Just ((left_item t ≡ None) × (take (length w) t ≡ w)) (Before w None t)
 Exactly (right c) w t = Just (component_of t ≡ c) (t ≡ w)
 Exactly (in_brackets i) w t = Just (index_of t ≡ Some i) (t ≡ bytes "[" ++ (w ++ bytes "]"))
 

@@ -1,13 +1,13 @@
 -- A line split into words once: what is kept of them, and where the first ten stand.
 use Rattle.std.specs.Prelude.{ℕ, min, ◌+◌, ◌≤◌, ◌<◌, ◌≡◌, List, [], Bool, true, ◌||◌, ◌&&◌, cond, length, get_or, drop, set, ltb, Option, Some, None, is_some}
 use Rattle.text.specs.declared.Span.{Span}
-use Rattle.text.specs.Bytes.{Text, Words, any_of, part}
+use Rattle.text.specs.Bytes.{Text, Words, any_of, all_of, part}
 use Rattle.text.specs.Words.{words_fault}
 use Rattle.text.specs.Reading.{left, ahead, follow}
 use Rattle.text.specs.Told.{fault_number}
 use Rattle.rules.specs.declared.Tally.{Tally}
 use Rattle.rules.specs.declared.Split.{Split}
-use Rattle.rules.specs.Words.{is_equals}
+use Rattle.rules.specs.Words.{is_equals, ordinary}
 use Rattle.rules.specs.Entries.{before, after}
 
 -- The words of a line, which is lent from where its first word may begin.
@@ -23,18 +23,20 @@ unfoldable pub equals_after : Option ℕ → ℕ → Bool → Option ℕ
 equals_after None n b = cond b (Some n) None
 equals_after (Some k) n b = Some k
 
--- one word more of a heading: the words so far, those before the first `=`, and whether another was met after it
+-- one word more of a heading: the words so far, those before the first `=`, whether another was met after it, and whether
+-- all words from the third on are ordinary
 unfoldable pub tallied : Tally → Text → Tally
 tallied t w =
     record {
       count = t.count + 1;
       equals = equals_after t.equals t.count (is_equals w);
       again = t.again || (is_some t.equals && is_equals w);
+      plain = cond (ltb t.count 2) t.plain (t.plain && ordinary w);
     }
 
 -- of any other line the words are only counted
 unfoldable pub counted : Bool → Tally → Text → Tally
-counted h t w = cond h (tallied t w) (record { count = t.count + 1; equals = t.equals; again = t.again })
+counted h t w = cond h (tallied t w) (record { count = t.count + 1; equals = t.equals; again = t.again; plain = t.plain })
 
 -- the tally of a heading
 pub record Tallied (ws : Words) (t : Tally) : Type 0 where
@@ -42,6 +44,7 @@ pub record Tallied (ws : Words) (t : Tally) : Type 0 where
   pub none : t.equals ≡ None → before ws ≡ ws
   pub first : (n : ℕ) → t.equals ≡ Some n → n ≡ length (before ws)
   pub again : t.again ≡ any_of is_equals (after ws)
+  pub plain : t.plain ≡ all_of ordinary (drop 2 ws)
 
 abbrev pub no_span : Span
 no_span = record { start = 0; end = 0 }

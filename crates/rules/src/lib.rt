@@ -76,13 +76,14 @@ pub enum Piece {
     Unclosed,
 }
 
-// What is counted of a line's words as they are read: all of them; those before the first `=`, if it was met; and
-// whether another was met after it.
+// What is counted of a line's words as they are read: all of them; those before the first `=`, if it was met; whether
+// another was met after it; and whether all from the third on are ordinary.
 #[derive(Clone, Copy)]
 pub struct Tally {
     pub count: usize,
     pub equals: Option<usize>,
     pub again: bool,
+    pub plain: bool,
 }
 
 // A line, split: its tally, the lowest refusal of its words, and the start of the next line with that line's number.
@@ -120,7 +121,7 @@ pub const NO_HEADING: Present = Present {
 // The heading of a set: its columns, its index, and its components by their numbers.
 #[derive(Clone, Copy)]
 pub struct SetHeading {
-    pub columns: Listing<Column, 4>,
+    pub columns: Listing<Column, 5>,
     pub index: Index,
     pub components: Listing<usize, 5>,
 }

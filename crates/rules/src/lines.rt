@@ -1,8 +1,9 @@
 // A line split into words, once: the words are counted as they are read, and the first ten keep their places.
-ghost use Rattle.std.specs.Prelude.{◌≡◌, ◌+◌, ◌^◌, ◌<◌, length};
+ghost use Rattle.std.specs.Prelude.{◌≡◌, ◌+◌, ◌^◌, ◌<◌, ◌&&◌, cond, ltb, length};
+ghost use Rattle.rules.specs.Words.{ordinary};
 ghost use Rattle.rules.specs.Splitting.{tallied, counted, stored, IsSplit};
 
-use super::words::is_equals;
+use super::words::{is_equals, is_ordinary};
 use super::{Split, Tally};
 use text::faults::{Fault, lower};
 use text::source::{Next, Source};
@@ -13,7 +14,18 @@ impl Tally {
         count: 0,
         equals: None,
         again: false,
+        plain: true,
     };
+
+    // Whether all words from the third on are ordinary, with a word more.
+    fn plain_with(self, w: &[u8]) -> bool
+        ensures { result ≡ cond (ltb self.count 2) self.plain (self.plain && ordinary w.now) }
+    {
+        if self.count < 2 {
+            return self.plain;
+        }
+        self.plain && is_ordinary(w)
+    }
 
     // With a word more of a heading.
     #[tactic(auto, unfolding(crate::specs::Splitting::tallied, crate::specs::Splitting::equals_after))]
@@ -26,6 +38,7 @@ impl Tally {
             count: self.count + 1,
             equals: self.equals.or(equals.then_some(self.count)),
             again: self.again || (self.equals.is_some() && equals),
+            plain: self.plain_with(w),
         }
     }
 
@@ -42,6 +55,7 @@ impl Tally {
             count: self.count + 1,
             equals: self.equals,
             again: self.again,
+            plain: self.plain,
         }
     }
 }

@@ -1,5 +1,5 @@
 // Values kept in order, none twice.
-ghost use Rattle.std.specs.Prelude.{◌≡◌, ◌≤◌, ◌+◌, ◌⊎◌, ◌++◌, ◌∷◌, [], length, take, true, false, MatchOption};
+ghost use Rattle.std.specs.Prelude.{◌≡◌, ◌≤◌, ◌+◌, ◌⊎◌, ◌++◌, ◌∷◌, [], length, take, true, false, MatchOption, ⊤};
 ghost use Rattle.std.specs.List.{list_any};
 
 use std::alloc::AllocError;
@@ -13,6 +13,10 @@ pub struct Listing<T, const N: usize> {
 }
 
 impl<T: Copy, const N: usize> Clone for Listing<T, N> {
+    ghost is_clone = { λ x y. y ≡ x };
+
+    ghost is_infallible = { λ _. ⊤ };
+
     fn clone(&self) -> Result<Self, AllocError> {
         Ok(*self)
     }

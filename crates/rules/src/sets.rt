@@ -15,7 +15,7 @@ use super::{Column, Index, Item, SetHeading};
 // The left items of a heading as they are read: their columns, and the first index.
 #[derive(Clone, Copy)]
 pub struct LeftSide {
-    pub columns: Listing<Column, 4>,
+    pub columns: Listing<Column, 5>,
     pub index: Option<Index>,
 }
 

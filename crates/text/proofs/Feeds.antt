@@ -247,6 +247,37 @@ module _ (s : List ℕ) (i : ℕ) (h : i < length s) (r : Bool) (e : r ≡ point
       go true false a b = short b ∙ rw (ne_eqb _ 92 (other (ltb-true _ _ a))) (sym (one (eqb (get_or s (i - 1) 0) 13)))
       go false u a b = let n = ltb-false _ _ a in short (le-ltb 1 i (omega arith))
 
+-- the LF that a backslash joins has it before its line end
+slash_feed : (s : List ℕ) (i : ℕ) → get_or s i 0 ≡ 92 → slash_before s (i + 1) ≡ true
+unfolding slash_before
+slash_feed s i e =
+    let p : 0 < i + 1 = omega arith in
+    let q : i + 1 - 1 ≡ i = omega arith in
+    rw (lt-ltb 0 (i + 1) p, q, e) refl
+
+slash_return : (s : List ℕ) (i : ℕ) → get_or s i 0 ≡ 92 → get_or s (i + 1) 0 ≡ 13 → slash_before s (i + 2) ≡ true
+unfolding slash_before
+slash_return s i e f =
+    let p : 0 < i + 2 = omega arith in
+    let r : 1 < i + 2 = omega arith in
+    let q : i + 2 - 1 ≡ i + 1 = omega arith in
+    let t : i + 2 - 2 ≡ i = omega arith in
+    rw (lt-ltb 0 (i + 2) p, lt-ltb 1 (i + 2) r, q, t, f, e) refl
+
+pub slash_join : (s : List ℕ) (i z : ℕ) → JoinAt s i z → (slash_before s (z - 1) ≡ true) × (get_or s (z - 1) 0 ≡ 10)
+slash_join s i z v =
+    ⊎_elim
+    (λ (w : (z ≡ i + 1 + 1) × (get_or s (i + 1) 0 ≡ 10)).
+    let e = w.0 in
+    let q : z - 1 ≡ i + 1 = omega arith in
+    rw q (slash_feed s i v.slash, w.1))
+    (λ (w : (z ≡ i + 1 + 2) × ((get_or s (i + 1) 0 ≡ 13) × (get_or s (i + 1 + 1) 0 ≡ 10))).
+    let e = w.0 in
+    let q : z - 1 ≡ i + 2 = omega arith in
+    let r : i + 1 + 1 ≡ i + 2 = omega arith in
+    rw q (slash_return s i v.slash w.1.0, rw r at w.1.1))
+    v.feed.cases
+
 -- as in a part of the file, so in the file
 pub slash_drop : (s : List ℕ) (k i : ℕ) → slash_before s (k + i) ≡ false → slash_before (drop k s) i ≡ false
 unfolding slash_before

@@ -13,3 +13,4 @@ pub mod Told
 pub mod Sources
 pub mod Firsts
 pub mod Tables
+pub mod Slashes

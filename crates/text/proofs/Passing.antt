@@ -21,3 +21,6 @@ module _ (s : List ℕ) (from n i m : ℕ) (v : Passing s from n i m) where
 
   pub passing_stop : (p l : ℕ) → NoWord s i m p l → Passed s from n p l
   passing_stop p l w = record { onwards = omega (arith, v.low, w.onwards); high = w.high; few = w.few; onto = v.onto ∙ w.onto }
+
+  pub passing_then : (p l : ℕ) → Passed s i m p l → Passed s from n p l
+  passing_then p l w = record { onwards = omega (arith, v.low, w.onwards); high = w.high; few = w.few; onto = v.onto ∙ w.onto }

@@ -28,7 +28,7 @@ use Rattle.text.proofs.Firsts.{tail, tail_length, tail_at, First, first_some, fi
 use Rattle.text.proofs.Lists.{no, and_both, any_nil, any_cons}
 use Rattle.text.proofs.Positions.{first_drop, part_empty, part_cons, part_snoc, in_word_start, in_word_more, in_word_over, in_word_end, in_word_at, marks_at, step_other, step_feed, comment_words, first_in, length_part, lines_char, lines_gap, lines_bang, lines_end, lines_nil}
 use Rattle.text.proofs.ByteKinds.{not_bad, plain_in_word, meant, blank_class, rank_clean, rank_percent, plain_stop, ends_no, ends_feed, Begins, begins_char, plain_begins, plain_kind, join_class, note_class, bang_class, return_class, differ}
-use Rattle.text.proofs.Feeds.{FeedAt, JoinAt, byte_in, feed_no, join_some, join_no, join_ends, joined_start, joined_space, slash_drop}
+use Rattle.text.proofs.Feeds.{FeedAt, JoinAt, byte_in, feed_no, join_some, join_no, join_ends, joined_start, joined_space, slash_join, slash_drop}
 
 -- two bytes, side by side
 pair_yes : (b c k m : ℕ) → (eqb b k && eqb c m) ≡ true → (b ≡ k) × (c ≡ m)
@@ -646,6 +646,45 @@ module _ (s : List ℕ) (f i : ℕ) (v : Fenced s f) (h : i < f) where
   pub fence_blank : blank (get_or s i 0) ≡ true → i + 1 < f
   fence_blank k = fence_more (blank_class (get_or s i 0) 0 0 k).1
 
+-- a line end that is joined stands before the fence
+joined_high : (s : List ℕ) (f i z : ℕ) → Fenced s f → i < f → JoinAt s i z → z ≤ f
+joined_high s f i z v h u =
+    let k : i + 1 < f = fence_more s f i v h (differ _ 92 10 refl u.slash) in
+    ⊎_elim
+    (λ (w : (z ≡ i + 1 + 1) × (get_or s (i + 1) 0 ≡ 10)). omega (arith, w.0))
+    (λ (w : (z ≡ i + 1 + 2) × ((get_or s (i + 1) 0 ≡ 13) × (get_or s (i + 1 + 1) 0 ≡ 10))).
+    omega (arith, w.0, fence_more s f (i + 1) v k (differ _ 13 10 refl w.1.0)))
+    u.feed.cases
+
+pub fence_joined : (s : List ℕ) (f i z : ℕ) → Fenced s f → i < f → JoinAt s i z → z < f
+fence_joined s f i z v h u = go (eqb z f) refl
+  where
+    go : (t : Bool) → eqb z f ≡ t → z < f
+    go true q =
+        let x = eqb-true z f q in
+        let k : 0 < f = omega (arith, h) in
+        absurd (no (sym (v.free k) ∙ rw x at (slash_join s i z u).0))
+    go false q = let x = eqb-false z f q in omega (arith, joined_high s f i z v h u)
+
+-- the loop of `next_word`
+pub record FastJoins (s : List ℕ) (f from n i m : ℕ) : Type 0 where
+  pub between : Between s from n i m
+  pub inside : i < f
+
+module _ (s : List ℕ) (f from n i m : ℕ) (v : Fenced s f) (w : FastJoins s f from n i m) (r : Option ℕ) (e : r ≡ join_end s i) (z : ℕ) (h : r ≡ Some z) where
+  joins : JoinAt s i z
+  joins = join_some s i z (sym e ∙ h)
+
+  pub joins_inside : z < f
+  joins_inside = fence_joined s f i z v w.inside joins
+
+  pub joins_more : (j : ℕ) → Skipped s z j × (j < f) → FastJoins s f from n j (m + 1)
+  joins_more j k = record { between = between_joined s from n i m w.between (fence_in s f i v w.inside) z j joins k.0.blanks; inside = k.1 }
+
+  -- a line end that is joined takes a byte
+  pub joins_less : (j : ℕ) → Skipped s z j × (j < f) → length s - j < length s - i
+  joins_less j k = omega (arith, joins.feed.low, joins.feed.high, k.0.blanks.low, k.0.blanks.high)
+
 -- a byte other than LF has another behind it
 pub fence_at : (s : List ℕ) (f i b : ℕ) → Fenced s f → i < f → get_or s i 0 ≡ b → eqb b 10 ≡ false → i + 1 < length s
 fence_at s f i b v h e n = fence_in s f (i + 1) v (fence_more s f i v h (differ _ b 10 n e))
@@ -715,11 +754,15 @@ module _ (s : List ℕ) (f : ℕ) (m : Kind) (i : ℕ) (v : Fenced s f) (h : i <
         below = r.below;
       }
 
-  -- with blanks before it
+  -- with blanks and joins before it
+  pub plain_behind : (from n l e : ℕ) → Between s from n i l → PlainWhole s f m i e → FoundWord s from n i e l 0
+  plain_behind from n l e k w = between_word s from n i l k (fence_in s f i v h) e 0 (plain_begins _ _ _ b).0 w.word
+
+  -- with blanks alone
   pub plain_found : (from e : ℕ) → Blanks s from i → PlainWhole s f m i e → PlainFound s f from i e
   plain_found from e k w =
       record {
-        found = λ n j. between_word s from n i n (between_skip s from n i j k) (fence_in s f i v h) e 0 (plain_begins _ _ _ b).0 w.word;
+        found = λ n j. plain_behind from n n e (between_skip s from n i j k) w;
         inside = w.inside;
       }
 

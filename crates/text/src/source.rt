@@ -315,6 +315,7 @@ impl<'a> Source<'a> {
     }
 
     // A plain word, if one is next. None says nothing, as above.
+    #[inline(always)]
     #[tactic(auto, using(crate::proofs::Readers::plain_found))]
     pub fn plain_word(&self, from: usize) -> Option<Span>
         requires { from < self.now.fence }
@@ -363,25 +364,32 @@ impl<'a> Source<'a> {
         if self.fence <= from.at {
             return self.next_slow(from);
         }
-        let start = self.skip_blanks(from.at);
-        let line = from.line;
-        if self.bytes[start] == b'\n' {
-            return Next::Stop {
-                next: start + 1,
-                line: line + 1,
+        let mut start = self.skip_blanks(from.at);
+        let mut line = from.line;
+        loop {
+            if self.bytes[start] == b'\n' {
+                return Next::Stop {
+                    next: start + 1,
+                    line: line + 1,
+                };
+            }
+            if self.begins_plain(start)
+                && let Some(end) = self.plain_end(start, Kind::Percent)
+            {
+                return Next::Found {
+                    start,
+                    end,
+                    line,
+                    fault: None,
+                };
+            }
+            // most words behind a join are plain too
+            let Some(end) = join_end(self.bytes, start) else {
+                return self.next_slow(Spot { at: start, line });
             };
+            start = self.skip_blanks(end);
+            line += 1;
         }
-        if self.begins_plain(start)
-            && let Some(end) = self.plain_end(start, Kind::Percent)
-        {
-            return Next::Found {
-                start,
-                end,
-                line,
-                fault: None,
-            };
-        }
-        self.next_slow(Spot { at: start, line })
     }
 
     // The same, where words are few: the compiler takes `next_word` into the one loop that calls it.

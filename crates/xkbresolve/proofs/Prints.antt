@@ -1,10 +1,12 @@
 -- What is printed, piece by piece: of a text a page takes what it has room for.
-use Prim.Native.Nat.{ℕ, zero, suc, ◌+◌, ◌*◌, ◌-◌, ◌^◌, ◌≤◌, ◌<◌, min}
+use Prim.Native.Nat.{ℕ, zero, suc, ◌+◌, ◌*◌, ◌-◌, ◌/◌, ◌%◌, ◌^◌, ◌≤◌, ◌<◌, min}
 use native.Mathlib.Numerals.{add-one}
 use native.Mathlib.Nat.{add-zero, min_comm}
 use native.Mathlib.Omega.{arith}
 use mathlib.Core.Path.{◌≡◌, refl, sym, ap, ◌∙◌}
 use mathlib.Core.List.{List, [], ◌∷◌, ◌++◌, map, append-nil, append_assoc}
+use mathlib.Core.Bool.{Bool, true, false, cond}
+use lib.Dec.{ltb}
 use lib.ListN.{length, take, drop, get_or, length-append, length-map, length-take}
 use lib.Seq.{take-suc, take_all, take-append-add}
 use borrow.Author.Tests.{lt-ltb, le-ltb}
@@ -28,6 +30,15 @@ appends = record { one = λ k n h. rw (lt-ltb n 10 h); more = λ k n h. rw (le-l
 pub decimal_is : (n : ℕ) → n < 2 ^ 64 → in_decimal n ≡ decimal n
 unfolding in_decimal
 decimal_is n h = decimal_from_appends digits appends (suc n) n h (omega (arith, length-decimal-le_succ n h))
+
+pub digits_few : (n k : ℕ) → length (digits n k) ≤ n
+unfolding digits
+digits_few zero k = omega arith
+digits_few (suc n) k = go (ltb k 10) (digits_few n (k / 10))
+  where
+    go : (t : Bool) → length (digits n (k / 10)) ≤ n → length (cond t ((48 + k) ∷ []) (digits n (k / 10) ++ ((48 + k % 10) ∷ []))) ≤ suc n
+    go true h = omega arith
+    go false h = simp length-append (omega (arith, h))
 
 -- what a page takes
 
@@ -57,23 +68,19 @@ put_on t x = again most_printed t x
 more : (p p' t x : Text) → p ≡ on_page t → p' ≡ on_page (p ++ x) → p' ≡ on_page (t ++ x)
 more p p' t x v e = e ∙ rw v (put_on t x)
 
-pub refusal_put : (p₀ p₁ p₂ p₃ p₄ p₅ : Text) (n k : ℕ) → p₀ ≡ [] → p₁ ≡ on_page (p₀ ++ bytes "refused ") → p₂ ≡ on_page (p₁ ++ in_decimal n) →
-    p₃ ≡ on_page (p₂ ++ bytes " at ") → p₄ ≡ on_page (p₃ ++ in_decimal k) → p₅ ≡ on_page (p₄ ++ (10 ∷ [])) → p₅ ≡ on_page (refusal_line n k)
+pub refusal_put : (p₀ p₁ p₂ p₃ p₄ p₅ : Text) (n r k : ℕ) → r ≡ n → p₁ ≡ on_page (p₀ ++ bytes "refused ") → p₂ ≡ on_page (p₁ ++ in_decimal r) →
+    p₃ ≡ on_page (p₂ ++ bytes " at ") → p₄ ≡ on_page (p₃ ++ in_decimal k) → p₅ ≡ on_page (p₄ ++ (10 ∷ [])) → p₅ ≡ on_page (p₀ ++ refusal_line n k)
 unfolding refusal_line
-refusal_put p₀ p₁ p₂ p₃ p₄ p₅ n k e₀ e₁ e₂ e₃ e₄ e₅ =
-    let a : p₁ ≡ on_page (bytes "refused ") = e₁ ∙ rw e₀ refl in
-    more p₄ p₅ _ _ (more p₃ p₄ _ _ (more p₂ p₃ _ _ (more p₁ p₂ _ _ a e₂) e₃) e₄) e₅ ∙ simp append_assoc
+refusal_put p₀ p₁ p₂ p₃ p₄ p₅ n r k e e₁ e₂ e₃ e₄ e₅ =
+    more p₄ p₅ _ _ (more p₃ p₄ _ _ (more p₂ p₃ _ _ (more p₁ p₂ _ _ e₁ e₂) e₃) e₄) e₅ ∙ rw e (simp append_assoc)
 
--- the lines of the first c components are on the page; ns are the names as the code has them
-pub record Lined (x : Text) (ls : List ℕ) (ns : List (Bor Text)) (p : Text) (c : ℕ) : Type 0 where
+-- the lines of the first c components are on the page, behind q, which stood there; ns are the names as the code has them
+pub record Lined (q x : Text) (ls : List ℕ) (ns : List (Bor Text)) (p : Text) (c : ℕ) : Type 0 where
   pub named : map (λ t. t.now) ns ≡ names
-  pub so : p ≡ on_page (stretch_lines (take c names) 0 x ls)
+  pub none : c ≡ 0 → p ≡ q
+  pub some : 0 < c → p ≡ on_page (q ++ stretch_lines (take c names) 0 x ls)
 
-on_none : on_page [] ≡ []
-unfolding on_page
-on_none = refl
-
-module _ (x : Text) (ls : List ℕ) where
+module _ (q x : Text) (ls : List ℕ) where
   lines_append : (ns : List Text) (c : ℕ) (n : Text) → stretch_lines (ns ++ (n ∷ [])) c x ls ≡ stretch_lines ns c x ls ++ component_line n (stretch x ls (c + length ns))
   unfolding stretch_lines
   lines_append [] c n = rw (append-nil (component_line n (stretch x ls c)), add-zero c)
@@ -81,12 +88,17 @@ module _ (x : Text) (ls : List ℕ) where
       let e : c + 1 + length ns ≡ c + suc (length ns) = omega arith in
       rw (lines_append ns (c + 1) n, e) (sym (append_assoc (component_line m (stretch x ls c)) _ _))
 
-  pub lined_start : (ns : List (Bor Text)) (p : Text) → map (λ t. t.now) ns ≡ names → p ≡ [] → Lined x ls ns p 0
-  unfolding stretch_lines
-  lined_start ns p q e = record { named = q; so = e ∙ sym on_none }
+  pub lined_start : (ns : List (Bor Text)) → map (λ t. t.now) ns ≡ names → Lined q x ls ns q 0
+  lined_start ns e = record { named = e; none = λ z. refl; some = λ h. absurd (omega (arith, h)) }
 
-  pub lined_more : (ns : List (Bor Text)) (p p₁ p₂ p₃ v : Text) (m : Bor Text) (c : ℕ) → Lined x ls ns p c → c < 5 → v ≡ stretch x ls c →
-      p₁ ≡ on_page (p ++ (get_or ns c m).now) → p₂ ≡ on_page (p₁ ++ v) → p₃ ≡ on_page (p₂ ++ (10 ∷ [])) → Lined x ls ns p₃ (c + 1)
+  -- the first text of a line more
+  line_put : (ns : List (Bor Text)) (p p' n : Text) (c : ℕ) → Lined q x ls ns p c → p' ≡ on_page (p ++ n) → p' ≡ on_page ((q ++ stretch_lines (take c names) 0 x ls) ++ n)
+  unfolding stretch_lines
+  line_put ns p p' n zero l e = e ∙ rw (l.none refl, append-nil q) refl
+  line_put ns p p' n (suc c) l e = more p p' _ n (l.some (omega arith)) e
+
+  pub lined_more : (ns : List (Bor Text)) (p p₁ p₂ p₃ v : Text) (m : Bor Text) (c : ℕ) → Lined q x ls ns p c → c < 5 → v ≡ stretch x ls c →
+      p₁ ≡ on_page (p ++ (get_or ns c m).now) → p₂ ≡ on_page (p₁ ++ v) → p₃ ≡ on_page (p₂ ++ (10 ∷ [])) → Lined q x ls ns p₃ (c + 1)
   unfolding component_line
   lined_more ns p p₁ p₂ p₃ v m c l h b e₁ e₂ e₃ =
       let n = (get_or ns c m).now in
@@ -96,11 +108,12 @@ module _ (x : Text) (ls : List ℕ) where
       let z : 0 + length (take c names) ≡ c = omega (arith, length-take c names) in
       record {
         named = l.named;
-        so = more p₂ p₃ _ _ (more p₁ p₂ _ _ (more p p₁ _ _ l.so e₁) e₂) e₃ ∙ rw (t, lines_append (take c names) 0 n, z, b) (simp append_assoc);
+        none = λ z. absurd (omega (arith, z));
+        some = λ h. more p₂ p₃ _ _ (more p₁ p₂ _ _ (line_put ns p p₁ _ c l e₁) e₂) e₃ ∙ rw (t, lines_append (take c names) 0 n, z, b) (simp append_assoc);
       }
 
-  pub lined_end : (ns : List (Bor Text)) (p : Text) (c : ℕ) → Lined x ls ns p c → 5 ≤ c → p ≡ on_page (stretch_lines names 0 x ls)
-  lined_end ns p c l h = l.so ∙ rw (take_all c names h) refl
+  pub lined_end : (ns : List (Bor Text)) (p : Text) (c : ℕ) → Lined q x ls ns p c → 5 ≤ c → p ≡ on_page (q ++ stretch_lines names 0 x ls)
+  lined_end ns p c l h = l.some (omega arith) ∙ rw (take_all c names h) refl
 
 -- the lines of a buffer that holds the ten texts are those of the texts
 pub lines_same : (ns : List Text) (c : ℕ) (d : Text) (ts : List Text) → c + length ns ≤ 5 →

@@ -1,7 +1,7 @@
 // Resolves a profile of four lines for the rules that follow them on standard input, and prints the five component strings or the refusal.
 #![tactic(auto)]
 
-ghost use Rattle.std.specs.Prelude.{◌≡◌};
+ghost use Rattle.std.specs.Prelude.{◌≡◌, []};
 ghost use Rattle.xkbresolve.specs.Program.{input_answer, printed};
 
 use input::split_line;
@@ -15,16 +15,18 @@ use text::faults::{Fault, Refusal};
 mod input;
 mod printing;
 
-// What is printed for an input.
-fn run(input: &[u8]) -> Page
-    ensures { result ≡ printed (input_answer input.now) }
+// Puts on an empty page what is printed for an input.
+fn run(input: &[u8], page: &mut Page)
+    requires { page.old ≡ [] }
+    ensures { page.new ≡ printed (input_answer input.now) }
 {
     let long = 65536 < input.len();
     if long {
-        return Page::of_refusal(Refusal {
+        page.put_refusal(Refusal {
             fault: Fault::LongFile,
             place: 0,
         });
+        return;
     }
     let (model, rest) = split_line(input);
     let (layouts, rest) = split_line(rest);
@@ -38,8 +40,8 @@ fn run(input: &[u8]) -> Page
     };
     let mut texts: [u8; 65536] = [0; 65536];
     match resolve(rules, &profile, &mut texts) {
-        Ok(lengths) => Page::of_components(&texts, lengths),
-        Err(refusal) => Page::of_refusal(refusal),
+        Ok(lengths) => page.put_components(&texts, lengths),
+        Err(refusal) => page.put_refusal(refusal),
     }
 }
 
@@ -47,6 +49,7 @@ fn run(input: &[u8]) -> Page
 fn main(rt: HostRuntime) -> io::Result<()> {
     let mut input: [u8; 65537] = [0; 65537];
     let n = read_full(&mut rt.reader(), &mut input)?;
-    let page = run(&input[..n]);
+    let mut page = Page::new();
+    run(&input[..n], &mut page);
     rt.write_all(page.bytes())
 }

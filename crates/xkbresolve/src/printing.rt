@@ -39,7 +39,7 @@ impl Model for Page {
 }
 
 impl Page {
-    fn new() -> Page
+    pub fn new() -> Page
         ensures { result ≡ [] }
     {
         Page {
@@ -70,28 +70,24 @@ impl Page {
     }
 
     // The line of a refusal.
-    pub fn of_refusal(refusal: Refusal) -> Page
-        ensures { result ≡ on_page (refusal_line (number_of refusal.fault) refusal.place) }
+    pub fn put_refusal(&mut self, refusal: Refusal)
+        ensures { self.new ≡ on_page (self.old ++ refusal_line (number_of refusal.fault) refusal.place) }
     {
-        let mut page = Page::new();
-        page.put(b"refused ");
-        page.put_number(refusal.fault.number());
-        page.put(b" at ");
-        page.put_number(refusal.place);
-        page.put(b"\n");
-        page
+        self.put(b"refused ");
+        self.put_number(refusal.fault.number());
+        self.put(b" at ");
+        self.put_number(refusal.place);
+        self.put(b"\n");
     }
 
     // The lines of the five components.
-    pub fn of_components(texts: &[u8], lengths: [u32; 10]) -> Page
-        ensures { result ≡ on_page (stretch_lines names 0 texts.now lengths) }
+    pub fn put_components(&mut self, texts: &[u8], lengths: [u32; 10])
+        ensures { self.new ≡ on_page (self.old ++ stretch_lines names 0 texts.now lengths) }
     {
-        let mut page = Page::new();
         for (c, name) in NAMES.iter().enumerate() {
-            page.put(name);
-            page.put(component(texts, lengths, c));
-            page.put(b"\n");
+            self.put(name);
+            self.put(component(texts, lengths, c));
+            self.put(b"\n");
         }
-        page
     }
 }

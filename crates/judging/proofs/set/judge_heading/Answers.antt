@@ -1,9 +1,9 @@
 use native.Mathlib.Omega.{arith}
-use mathlib.Core.Path.{refl, sym, ◌∙◌}
-use Rattle.text.specs.Bytes.{bytes}
+use mathlib.Core.Path.{refl, sym, ap, ◌∙◌}
+use Rattle.text.specs.Bytes.{Text, bytes, same}
 use Rattle.text.proofs.Told.{number_some}
 use Rattle.rules.proofs.LineKinds.{line_wrong, line_heading, heading_none, heading_include, heading_set}
-use Rattle.judging.proofs.SetLines.{same_told, set_as}
+use Rattle.judging.proofs.SetLines.{set_as}
 use Rattle.judging.proofs.set.judge_heading.Goals as goal
 
 pub returns-in-Some : goal.returns-in-Some
@@ -13,12 +13,12 @@ pub returns-then-line-eq0 : goal.returns-then-line-eq0
 returns-then-line-eq0 c =
     line_heading _ _ _ _ (rw c.in_default.is at c.requires.0.fault) refl refl ∙ heading_none _ (sym c.args.line.now.counted ∙ c.if-line-eq0.true)
 
-pub returns-then-eq : goal.returns-then-eq
+pub returns-then-same : goal.returns-then-same
 unfolding bytes
-returns-then-eq c =
+returns-then-same c =
     line_heading _ _ _ _ (rw c.in_default.is at c.requires.0.fault) refl refl
     ∙ heading_include _ (omega (arith, c.args.line.now.counted, c.if-line-eq0.false)) c.requires.1
-    (same_told _ _ _ _ (bytes "include") c.eq.ensures c.word.ensures c.as_slice.ensures ∙ c.if-eq.true)
+    (ap (λ (x : Text). same x (bytes "include")) (sym c.word.ensures) ∙ (sym c.same.ensures ∙ c.if-same.true))
 
 pub returns : goal.returns
 unfolding bytes
@@ -26,5 +26,5 @@ returns c =
     set_as _ _ _
     (line_heading _ _ _ _ (rw c.in_default.is at c.requires.0.fault) refl refl
     ∙ heading_set _ (omega (arith, c.args.line.now.counted, c.if-line-eq0.false)) c.requires.1
-    (same_told _ _ _ _ (bytes "include") c.eq.ensures c.word.ensures c.as_slice.ensures ∙ c.if-eq.false))
+    (ap (λ (x : Text). same x (bytes "include")) (sym c.word.ensures) ∙ (sym c.same.ensures ∙ c.if-same.false)))
     c.judge_set.ensures

@@ -5,6 +5,9 @@ use Rattle.names.proofs.Placing.{short_texts, few_fields, length_four, values_of
 use Rattle.names.proofs.Asked.{ready_profile}
 use Rattle.names.proofs.Names.compile.Goals as goal
 
+pub place_values-bounds-requires : goal.place_values-bounds-requires
+place_values-bounds-requires c = let s = short_texts _ c.requires in (s.model, s.layouts, s.variants)
+
 pub invariant_of-self : goal.invariant_of-self
 invariant_of-self c =
     let x = c.args.texts.now in

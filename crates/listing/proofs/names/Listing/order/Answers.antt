@@ -1,8 +1,13 @@
-use Rattle.listing.proofs.Orders.{told_by_key, told_by_bytes}
+use Rattle.std.proofs.Common.{sym, ◌∙◌}
+use Rattle.listing.proofs.Orders.{told_by_bytes, told_same}
 use Rattle.listing.proofs.names.Listing.order.Goals as goal
 
-pub returns-in-Equal : goal.returns-in-Equal
-returns-in-Equal c = told_by_bytes _ _ _ _ _ _ _ c.from.ensures c.requires _ c.cmp.ensures c.in-Equal.is _ c.name.ensures _ c.cmp-in-Equal.ensures
+pub returns-then-same : goal.returns-then-same
+returns-then-same c =
+    told_same c.args.self.now.text c.args.self.now.spans _ _ _ c.requires
+    (rw c.name-other.ensures at (sym c.same.ensures ∙ c.if-same.true))
 
-pub returns-in_default : goal.returns-in_default
-returns-in_default c = told_by_key _ _ _ _ _ _ _ c.from.ensures c.requires _ c.cmp.ensures c.in_default.not-Equal
+pub returns : goal.returns
+returns c =
+    (rw c.name-other.ensures at c.cmp.ensures)
+    ∙ told_by_bytes c.args.self.now.text c.args.self.now.spans _ _ _ c.requires

@@ -4,6 +4,9 @@ use Rattle.names.proofs.Placing.{short_texts, values_of, lies_options}
 use Rattle.names.proofs.Asked.{star_fresh, table_compiled}
 use Rattle.names.proofs.table.Table.compile.Goals as goal
 
+pub copy_texts-star-requires : goal.copy_texts-star-requires
+copy_texts-star-requires c = short_texts _ c.requires.0
+
 pub list_row-requires : goal.list_row-requires
 list_row-requires c =
     let a = c.copy_texts-star.ensures in

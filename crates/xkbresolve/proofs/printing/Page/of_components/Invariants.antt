@@ -1,5 +1,0 @@
-use Rattle.xkbresolve.proofs.Prints.{Lined}
-use Rattle.xkbresolve.proofs.printing.Page.of_components.Given as goal
-
-abbrev pub invariant-loop-c : goal.invariant-loop-c
-invariant-loop-c l = Lined l.texts l.lengths l.name-items l.page l.c
