@@ -27,7 +27,8 @@ struct Sections<'a> {
 }
 
 impl<'a> Sections<'a> {
-    // Nothing where a card holds anything else.
+    // Nothing where a card holds anything else. Inlined, as `judged` is: the sections are 224 bytes, and a card took a sixth more instructions while they were moved.
+    #[inline(always)]
     fn find(card: &'a [u8]) -> Option<Sections<'a>>
         ensures { MatchOption result (broken section_count card.now ≡ true)
             (λ r. (broken section_count card.now ≡ false) × (map (λ t. t.now) r.texts ≡ texts_on card.now)) }
@@ -83,6 +84,7 @@ impl<'a> Sections<'a> {
 }
 
 // A card by itself, before there is a buffer for its texts: its sections, or 16.
+#[inline(always)]
 fn judged(card: &[u8]) -> Result<Sections<'_>, Fault>
     ensures { MatchResult result (λ r. Clear card.now (map (λ t. t.now) r.texts))
         (λ f. (f ≡ Fault.BadCard) × (card_refusals card.now ≡ record { number = 16; place = 0 } ∷ [])) }

@@ -1,5 +1,5 @@
 -- A group is defined: refused, or one group more.
-use Rattle.std.proofs.Common.{◌≡◌, ◌+◌, ◌<◌, Bool, true, false, ◌||◌, leb, [], ◌∷◌, ◌++◌, length, Ok, Err, refl, sym, ap, ◌∙◌, arith}
+use Rattle.std.proofs.Common.{◌≡◌, ◌+◌, ◌-◌, ◌≤◌, ◌<◌, Bool, true, false, ◌||◌, leb, [], ◌∷◌, ◌++◌, length, Ok, Err, refl, sym, ap, ◌∙◌, arith}
 use borrow.Author.Tests.{eqb-true, lt-leb}
 use Rattle.text.specs.Limits.{most_groups}
 use Rattle.text.specs.Bytes.{Text, Words, same, first, rest, all_of, any_of}
@@ -8,13 +8,14 @@ use Rattle.text.proofs.Lists.{no, any_cons}
 use Rattle.profile.specs.Profile.{Texts, profile_of, layout_count}
 use Rattle.rules.specs.Words.{has_dollar, ordinary}
 use Rattle.rules.specs.Faults.{Group, Groups, defined}
+use Rattle.listing.specs.Names.{text_size}
 use Rattle.listing.specs.Lists.{text_of, names_of}
 use Rattle.names.specs.declared.Row.{Row}
 use Rattle.names.specs.declared.Names.{Names}
 use Rattle.names.specs.Rows.{asks}
 use Rattle.names.specs.Compiled.{Joined, Renewed, NewRow}
 use Rattle.names.specs.Ready.{Ready}
-use Rattle.names.specs.Defining.{Defines}
+use Rattle.names.specs.Defining.{RoomForName, Defines}
 use Rattle.names.proofs.GroupMatches.{group_others, group_this}
 use Rattle.names.proofs.Renewing.{compiled_new}
 use Rattle.names.proofs.Placing.{values_longer}
@@ -31,6 +32,10 @@ same_dollar y g = refl
 defined_cons : (g : Group) (gs : Groups) (y : Text) → defined (g ∷ gs) y ≡ same y g.name || defined gs y
 unfolding defined any_of
 defined_cons g gs y = refl
+
+-- a name that fits behind the text has room, whatever its length and the groups that may still come
+pub fits_has_room : (w : Text) (names : Names) → length w ≤ text_size - names.table.list.used → RoomForName w names
+fits_has_room w names h few fresh = omega (arith, names.table.list.room)
 
 module _ (w : Text) (h : has_dollar w ≡ true) (row : Row) (names : Names) where
   -- whether the name is listed already

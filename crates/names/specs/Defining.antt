@@ -15,10 +15,13 @@ use Rattle.names.specs.declared.Names.{Names}
 use Rattle.names.specs.Compiled.{Joined}
 use Rattle.names.specs.Ready.{Ready}
 
--- A name that is not refused has room, and behind it the longest names of all groups that may still come.
-abbrev pub LeavesRoom : Text → Names → Type 0
-LeavesRoom w names = names.groups < most_groups → any_of (same w) (names_of names.table.list) ≡ false →
-    names.table.list.used + length w + (most_groups - (names.groups + 1)) * longest_word ≤ text_size
+-- there is room for a name, if it is not refused
+abbrev pub RoomForName : Text → Names → Type 0
+RoomForName w names = names.groups < most_groups → any_of (same w) (names_of names.table.list) ≡ false → names.table.list.used + length w ≤ text_size
+
+-- there is room for the longest names of all groups that may still come
+abbrev pub RoomForGroups : Names → Type 0
+RoomForGroups names = names.table.list.used + (most_groups - names.groups) * longest_word ≤ text_size
 
 -- The group of the name w, `$` with it, and of a row: refused, and nothing is changed; or the name is copied behind the text and listed. If the row is that of
 -- some words, there is one group more, with these words, for every profile and all groups that the names are held for.

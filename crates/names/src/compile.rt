@@ -99,11 +99,12 @@ impl Table {
 
 impl Names {
     ghost use Rattle.names.specs.Ready.{Ready};
+    ghost use Rattle.names.specs.Defining.{RoomForGroups};
 
-    // A profile that is not refused, with no group yet, in place of what was held.
+    // A profile that is not refused, with no group yet, in place of what was held, and room for the names of 64 groups.
     pub fn compile(&mut self, texts: &Texts)
         requires { profile_refusals texts.now ≡ [] }
-        ensures { Ready texts.now [] self.new }
+        ensures { Ready texts.now [] self.new × RoomForGroups self.new }
     {
         let bounds = place_values(texts);
         self.table.compile(texts, &bounds);

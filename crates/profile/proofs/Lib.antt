@@ -4,3 +4,4 @@ pub mod Parts
 pub mod Splitting
 pub mod OptionFields
 pub mod Counts
+pub mod FieldWalk

@@ -1,5 +1,5 @@
 -- The options of a text, read field by field.
-use Prim.Native.Nat.{ℕ, ◌+◌, ◌-◌, ◌≤◌, ◌<◌}
+use Prim.Native.Nat.{ℕ, suc, ◌+◌, ◌-◌, ◌≤◌, ◌<◌}
 use native.Mathlib.Omega.{arith}
 use mathlib.Core.Path.{◌≡◌, refl, ap}
 use mathlib.Core.List.{List, [], ◌∷◌}
@@ -65,3 +65,33 @@ module _ (s : Text) (a e : ℕ) (f : FieldEnd s a e) where
   options_none h =
       let z : e ≡ a = omega (arith, f.low) in
       rw f.split (rw (ap (part s a) z, part_empty, drop_none) (after s e))
+
+-- up to a field's start n options are counted
+pub record Tallied (s : Text) (n start : ℕ) : Type 0 where
+  pub few : n ≤ start
+  pub high : start ≤ length s + 1
+  pub rest : n + length (options_of (drop start s)) ≡ length (options_of s)
+
+options_end : (s : Text) (i : ℕ) → length s ≤ i → options_of (drop i s) ≡ []
+options_end s i h = rw (drop_of_length-le s h, options_nil)
+
+module _ (s : Text) where
+  pub tallied_start : Tallied s 0 0
+  tallied_start = record { few = omega arith; high = omega arith; rest = omega arith }
+
+  module _ (n start : ℕ) (v : Tallied s n start) where
+    module _ (e : ℕ) (f : FieldEnd s start e) where
+      pub tallied_field : start < e → Tallied s (n + 1) (e + 1)
+      tallied_field h =
+          let z : length (options_of (drop start s)) ≡ suc (length (options_of (drop (e + 1) s))) = ap length (options_field s start e f h) in
+          record { few = omega (arith, v.few); high = omega (arith, f.high); rest = omega (arith, v.rest) }
+
+      pub tallied_none : e ≤ start → Tallied s n (e + 1)
+      tallied_none h =
+          let z : length (options_of (drop start s)) ≡ length (options_of (drop (e + 1) s)) = ap length (options_none s start e f h) in
+          record { few = omega (arith, v.few, f.low); high = omega (arith, f.high); rest = omega (arith, v.rest) }
+
+    pub tallied_end : length s ≤ start → n ≡ length (options_of s)
+    tallied_end h =
+        let z : length (options_of (drop start s)) ≡ 0 = ap length (options_end s start h) in
+        omega (arith, v.rest)

@@ -18,15 +18,27 @@ pub fn field_end(text: &[u8], from: usize) -> usize
 pub fn field_count(text: &[u8]) -> usize
     ensures { result ≡ length (fields_of text.now) }
 {
-    text.split(|b| *b == b',').count()
+    let mut count = 1;
+    for b in text {
+        if *b == b',' {
+            count += 1;
+        }
+    }
+    count
 }
 
-// How many options a text has, empty fields dropped.
+// How many options a text has, empty fields dropped. The step is the length of a field; a split, filtered and counted, takes two instructions more for each byte.
 pub fn option_count(options: &[u8]) -> usize
     ensures { result ≡ length (options_of options.now) }
 {
-    options
-        .split(|b| *b == b',')
-        .filter(|option| !option.is_empty())
-        .count()
+    let mut count = 0;
+    let mut start = 0;
+    while start < options.len() {
+        let end = field_end(options, start);
+        if start < end {
+            count += 1;
+        }
+        start = end + 1;
+    }
+    count
 }

@@ -2,20 +2,13 @@
 ghost use Rattle.std.specs.Prelude.{◌≡◌, [], ◌∷◌};
 ghost use Rattle.text.specs.Bytes.{any_of};
 ghost use Rattle.profile.specs.Profile.{fields};
-ghost use Rattle.profile.specs.Refusals.{outside, long_field, bad_text};
+ghost use Rattle.profile.specs.Refusals.{outside, bad_text};
 
 // Some byte is not from 0x21 to 0x7E.
 fn any_outside(text: &[u8]) -> bool
     ensures { result ≡ any_of outside text.now }
 {
     text.iter().any(|b| !b.is_ascii_graphic())
-}
-
-// Some field is longer than 64 bytes.
-fn any_long(text: &[u8]) -> bool
-    ensures { result ≡ any_of long_field (fields text.now) }
-{
-    text.split(|b| *b == b',').any(|field| 64 < field.len())
 }
 
 // The model is bad: it is one field, commas included.
@@ -26,10 +19,26 @@ pub fn bad_model(text: &[u8]) -> bool
     64 < text.len() || any_outside(text)
 }
 
-// A text that is split at commas is bad.
-#[tactic(auto, unfolding(crate::specs::Refusals::bad_text))]
+// A text that is split at commas is bad. Bytes and fields are judged at one go, and by index: with a split for the fields a card took up to half as much time
+// again, and a loop over the bytes alone takes three instructions more for each.
 pub fn bad_fields(text: &[u8]) -> bool
     ensures { result ≡ bad_text text.now (fields text.now) }
 {
-    1024 < text.len() || any_outside(text) || any_long(text)
+    if 1024 < text.len() {
+        return true;
+    }
+    let mut start = 0;
+    for i in 0..text.len() {
+        let b = text[i];
+        if !b.is_ascii_graphic() {
+            return true;
+        }
+        if b == b',' {
+            if 64 < i - start {
+                return true;
+            }
+            start = i + 1;
+        }
+    }
+    64 < text.len() - start
 }

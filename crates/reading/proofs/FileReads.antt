@@ -20,6 +20,7 @@ use Rattle.firing.specs.declared.Cursors.{Cursors}
 use Rattle.firing.specs.Writing.{Low, run_buf, run_cur}
 use Rattle.rules.specs.Held.{heading_by}
 use Rattle.names.specs.declared.Names.{Names}
+use Rattle.names.specs.Defining.{RoomForGroups}
 use Rattle.answers.specs.Firings.{file_firings}
 use Rattle.reading.specs.declared.Reading.{Reading}
 use Rattle.reading.specs.Order.{firings_from}
@@ -48,8 +49,8 @@ module _ (s : Text) (names₀ : Names) (w₀ : Text) (q₀ : Cursors) where
     pub sound : Sound s names x w r
     pub reads : (p : Texts) → HoldsProfile names₀ p → ReadTo w₀ q₀ s names w p r
 
-  pub reads_start : names₀.layouts < 10 → length w₀ ≤ farthest → Low q₀.at → (x : Text) → length x ≡ 8192 → (r : Reading) → Started q₀ r → Reads names₀ x w₀ r
-  reads_start few e l x z r u =
+  pub reads_start : names₀.layouts < 10 → RoomForGroups names₀ → length w₀ ≤ farthest → Low q₀.at → (x : Text) → length x ≡ 8192 → (r : Reading) → Started q₀ r → Reads names₀ x w₀ r
+  reads_start few room e l x z r u =
       rw u.is
       (record {
         scratch = z;
@@ -57,6 +58,7 @@ module _ (s : Text) (names₀ : Names) (w₀ : Text) (q₀ : Cursors) where
         sound =
             record {
               within = record { high = omega arith; few = omega arith };
+              room = room;
               set =
                   record {
                     seekable = record { columns = u.columns; left = omega arith; right = omega arith; heading = λ f. absurd (f refl) };

@@ -89,6 +89,7 @@ module _ (s : Text) (names : Names) (r : Reading) (words : Spot) (h : AtHeading 
                   sound = λ y.
                       record {
                         within = record { high = v.passed.high; few = v.passed.few };
+                        room = u.room;
                         set = q.held;
                         kept = record { size = u.kept.size; range = q.range; place = λ k a c e. absurd (no (sym e ∙ q.kept k a c)) };
                         fires = u.fires;

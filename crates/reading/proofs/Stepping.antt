@@ -105,6 +105,7 @@ module _ (s : Text) (names : Names) (x w : Text) (r : Reading) (v : Sound s name
     closed_sound h =
         record {
           within = h;
+          room = v.room;
           set = closed_open names.layouts r.set v.set;
           kept = closed_kept r.set.present r.set.set s r.places v.kept.size;
           fires = fired_fires r.set r.places x' w' q' long f;
@@ -179,6 +180,7 @@ module _ (s : Text) (names : Names) (x w : Text) (r : Reading) (v : Sound s name
           let a = v.set.seekable in
           record {
             within = record { high = g.place.3; few = g.place.4 };
+            room = v.room;
             set =
                 record {
                   seekable = record { columns = a.columns; left = a.left; right = a.right; heading = λ z. a.heading g.place.1 };
@@ -222,6 +224,7 @@ module _ (s : Text) (names : Names) (x w : Text) (r : Reading) (v : Sound s name
       fire_sound =
           record {
             within = record { high = g.place.3; few = g.place.4 };
+            room = v.room;
             set = v.set;
             kept =
                 record {

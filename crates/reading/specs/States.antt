@@ -13,6 +13,7 @@ use Rattle.firing.specs.Rule.{Fires}
 use Rattle.rules.specs.Held.{heading_by}
 use Rattle.names.specs.declared.Names.{Names}
 use Rattle.names.specs.Ready.{Ready}
+use Rattle.names.specs.Defining.{RoomForGroups}
 use Rattle.answers.specs.Firings.{file_firings}
 use Rattle.reading.specs.declared.Reading.{Reading}
 use Rattle.reading.specs.Owed.{Kept, owed}
@@ -26,6 +27,7 @@ names_of gs = map (λ (g : Group). g.name) gs
 -- A reading can go on from here: the file s, the scratch x and the buffer w.
 pub record Sound (s : Text) (names : Names) (x w : Text) (r : Reading) : Type 0 where
   pub within : Within s r.at.at r.at.line
+  pub room : RoomForGroups names
   pub set : SetOpen names.layouts r.set
   pub kept : KeptPlaces r.set s r.places
   pub fires : Fires names.layouts 0 x w r.cursors

@@ -3,6 +3,7 @@ ghost use Rattle.std.specs.Prelude.{◌≡◌, ◌≤◌, ◌<◌, length};
 ghost use Rattle.output.specs.Store.{farthest};
 ghost use Rattle.rules.specs.Held.{heading_by};
 ghost use Rattle.firing.specs.Writing.{Low};
+ghost use Rattle.names.specs.Defining.{RoomForGroups};
 ghost use Rattle.reading.specs.Owed.{wanting};
 ghost use Rattle.reading.specs.States.{Sound};
 ghost use Rattle.reading.specs.Steps.{Stepped};
@@ -128,7 +129,7 @@ pub fn read_file(
     buf: &mut [u8],
     q: Cursors,
 ) -> Result<Cursors, Refusal>
-    requires { (names.old.layouts < 10) × (length buf.old ≤ farthest) × Low q.at }
+    requires { (names.old.layouts < 10) × RoomForGroups names.old × (length buf.old ≤ farthest) × Low q.at }
     ensures { FileReadOf src.now.bytes.now names.old buf.old buf.new q result }
 {
     let mut scratch = [0; 8192];

@@ -3,6 +3,7 @@ ghost use Rattle.std.specs.Prelude.{◌≡◌, [], false, get_or};
 ghost use Rattle.text.specs.Reading.{left};
 ghost use Rattle.text.specs.Sources.{Within};
 ghost use Rattle.rules.specs.Words.{has_dollar};
+ghost use Rattle.names.specs.Defining.{RoomForGroups};
 ghost use Rattle.judging.specs.Groups.{DollarWord};
 ghost use Rattle.reading.specs.Heads.{AtHeading, AtGroup, HeadRead};
 
@@ -45,7 +46,7 @@ impl Reading {
 
     // A group line, whose first word is x.
     fn read_group(&mut self, src: &Source, names: &mut Names, x: FirstWord) -> Result<(), Refusal>
-        requires { DollarWord src.now.bytes.now x × AtGroup src.now.bytes.now self.old x }
+        requires { DollarWord src.now.bytes.now x × AtGroup src.now.bytes.now self.old x × RoomForGroups names.old }
         ensures { HeadRead src.now.bytes.now names.old names.new self.old self.new result }
     {
         let line = group_line(src, x, names);
@@ -68,7 +69,7 @@ impl Reading {
         names: &mut Names,
         words: Spot,
     ) -> Result<(), Refusal>
-        requires { Within src.now.bytes.now words.at words.line × AtHeading src.now.bytes.now self.old words }
+        requires { Within src.now.bytes.now words.at words.line × AtHeading src.now.bytes.now self.old words × RoomForGroups names.old }
         ensures { HeadRead src.now.bytes.now names.old names.new self.old self.new result }
     {
         match first_word(src, words) {

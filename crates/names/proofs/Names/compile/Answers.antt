@@ -15,12 +15,15 @@ invariant_of-self c =
     let u = c.compile.ensures in
     record {
       few = omega (arith, u.few);
-      room = omega (arith, u.used, length_four x, s.model, s.layouts, s.variants, s.options);
-      limit = omega arith;
       counted = (omega (arith, some_fields x.layouts, c.layout_count-self.ensures), omega (arith, (few_fields x c.requires).0, c.layout_count-self.ensures));
       placed = rw u.text (values_of x c.requires _ c.place_values-bounds.ensures).placed;
     }
 
 pub returns : goal.returns
 unfolding layout_count profile_of
-returns c = ready_profile _ _ c.requires c.place_values-bounds.ensures c.compile.ensures refl c.layout_count-self.ensures
+returns c =
+    let x = c.args.texts.now in
+    let s = short_texts x c.requires in (
+      ready_profile _ _ c.requires c.place_values-bounds.ensures c.compile.ensures refl c.layout_count-self.ensures,
+      omega (arith, c.compile.ensures.used, length_four x, s.model, s.layouts, s.variants, s.options),
+    )

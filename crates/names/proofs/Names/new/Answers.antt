@@ -5,4 +5,4 @@ use Rattle.names.proofs.Names.new.Goals as goal
 pub invariant_of-result : goal.invariant_of-result
 invariant_of-result c =
     let e = c.new.ensures.list in
-    record { few = omega (arith, e.count); room = omega (arith, e.used); limit = omega arith; counted = (omega arith, omega arith); placed = none_placed _ }
+    record { few = omega (arith, e.count); counted = (omega arith, omega arith); placed = none_placed _ }

@@ -1,13 +1,20 @@
-use mathlib.Core.Bool.{not}
-use Rattle.std.proofs.Common.{rules, tests}
-use Rattle.std.proofs.lemmas.Iterator.Consumers.{YieldsList-at, count_from_yields_List, YieldsList-from_filter}
-use Rattle.std.proofs.lemmas.Iterator.Splits.{YieldsList-from_slice_split}
-use Rattle.text.specs.Bytes.{empty}
-use Rattle.profile.proofs.Parts.{comma, options_filter}
+use native.Mathlib.Omega.{arith}
+use Rattle.profile.proofs.OptionFields.{tallied_start, tallied_field, tallied_none, tallied_end}
+use Rattle.profile.proofs.fields.option_count.Goals.{then-start-end, else-start-end}
 use Rattle.profile.proofs.fields.option_count.Goals as goal
 
+pub loop-start-init : goal.loop-start-init
+loop-start-init c = tallied_start _
+
+pub overflow_add-count : goal.overflow_add-count
+overflow_add-count c = omega (arith, c.loop-start.invariant.few, c.loop-start-test.true)
+
+pub loop-start-preserved : goal.loop-start-preserved
+loop-start-preserved c =
+    elim c.if-start-end.branch [
+      | then-start-end w ↦ rw w.count-is (tallied_field _ _ _ c.loop-start.invariant _ c.field_end-end.ensures w.if-start-end.true)
+      | else-start-end w ↦ rw w.count-is (tallied_none _ _ _ c.loop-start.invariant _ c.field_end-end.ensures w.if-start-end.false)
+    ]
+
 pub returns : goal.returns
-unfolding empty
-returns c =
-    rw (options_filter c.args.options.now) (count_from_yields_List _ _ c.count.ensures.ran
-    (YieldsList-from_filter _ (λ t. not (empty t)) (YieldsList-at c.filter.ensures.source (YieldsList-from_slice_split _ comma _ c.split.ensures.rest c.split.ensures.done c.split.ensures.closure (λ x b q k. search (rules, tests)))) c.filter.ensures.closure (λ x r q k. search (rules, tests))))
+returns c = tallied_end _ _ _ c.loop-start.invariant c.loop-start-test.false

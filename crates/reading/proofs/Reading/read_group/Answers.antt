@@ -1,5 +1,5 @@
 -- `reading::Reading::read_group`: refused, or one group more.
-use Rattle.reading.proofs.GroupHeads.{leaves_room, group_refused, group_twice, group_more}
+use Rattle.reading.proofs.GroupHeads.{name_room, group_refused, group_twice, group_more}
 use Rattle.reading.proofs.Reading.read_group.Goals as goal
 
 pub returns-in-Some : goal.returns-in-Some
@@ -7,7 +7,7 @@ returns-in-Some c = rw c.refusal.ensures (group_refused _ _ _ _ c.requires.1 c.r
 
 pub define_group-requires : goal.define_group-requires
 define_group-requires c =
-    rw c.word-name.ensures (leaves_room _ c.args.names.now _ _ c.requires.1 c.requires.0 _ c.group_line-line.ensures c.in_default.is, c.requires.0.yes)
+    rw c.word-name.ensures (name_room _ c.args.names.now _ _ c.requires.1 c.requires.0 _ c.group_line-line.ensures c.in_default.is c.requires.2, c.requires.0.yes)
 
 pub returns-in-Err : goal.returns-in-Err
 returns-in-Err c =
