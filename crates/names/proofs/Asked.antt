@@ -478,15 +478,18 @@ pub ready_profile : (x : Texts) (names : Names) → profile_refusals x ≡ [] �
     names.layouts ≡ layout_count (profile_of x) → Ready x [] names
 ready_profile x names h placed u z n =
     record {
-      held =
+      table =
           record {
-            filled =
-                filled_fewer (asks [] (profile_of x)) 32 (layout_count (profile_of x)) names.table (omega (arith, few_layouts x h))
-                (filled_same (profile_asks (text_of names.table.list) names.bounds (options_of x.options)) (asks [] (profile_of x)) 32 names.table
-                (profile_law x (text_of names.table.list) names.bounds values) u.begun.held);
-            star = u.begun.star;
+            held =
+                record {
+                  filled =
+                      filled_fewer (asks [] (profile_of x)) 32 (layout_count (profile_of x)) names.table (omega (arith, few_layouts x h))
+                      (filled_same (profile_asks (text_of names.table.list) names.bounds (options_of x.options)) (asks [] (profile_of x)) 32 names.table
+                      (profile_law x (text_of names.table.list) names.bounds values) u.begun.held);
+                  star = u.begun.star;
+                };
+            listed = λ g. sym (number_named (names_of names.table.list) (36 ∷ g)) ∙ (ap is_some (u.begun.plain g) ∙ sym (defined_none g));
           };
-      listed = λ g. sym (number_named (names_of names.table.list) (36 ∷ g)) ∙ (ap is_some (u.begun.plain g) ∙ sym (defined_none g));
       number = z;
       values = values;
       layouts = n;

@@ -14,7 +14,7 @@ use Rattle.names.specs.declared.Row.{Row}
 use Rattle.names.specs.declared.Names.{Names}
 use Rattle.names.specs.Rows.{asks}
 use Rattle.names.specs.Compiled.{Joined, Renewed, NewRow}
-use Rattle.names.specs.Ready.{Ready}
+use Rattle.names.specs.Ready.{TableReady, Ready}
 use Rattle.names.specs.Defining.{RoomForName, Defines}
 use Rattle.names.proofs.GroupMatches.{group_others, group_this}
 use Rattle.names.proofs.Renewing.{compiled_new}
@@ -39,34 +39,34 @@ fits_has_room w names h few fresh = omega (arith, names.table.list.room)
 
 module _ (w : Text) (h : has_dollar w ≡ true) (row : Row) (names : Names) where
   -- whether the name is listed already
-  module _ (r : Bool) (e : r ≡ any_of (same w) (names_of names.table.list)) (x : Texts) (gs : Groups) (v : Ready x gs names) where
+  module _ (r : Bool) (e : r ≡ any_of (same w) (names_of names.table.list)) (x : Texts) (gs : Groups) (v : TableReady x gs names.table) where
     known : r ≡ defined gs (rest w)
     known = e ∙ (ap (λ (y : Text). any_of (same y) (names_of names.table.list)) (dollar_word w h) ∙ v.listed (rest w))
 
     refused_twice : r ≡ true → true ≡ defined gs (rest w) || leb most_groups (length gs)
     refused_twice f = let z : defined gs (rest w) ≡ true = sym known ∙ f in rw z refl
 
-    not_refused : r ≡ false → names.groups < most_groups → false ≡ defined gs (rest w) || leb most_groups (length gs)
-    not_refused f l =
+    not_refused : r ≡ false → names.groups < most_groups → names.groups ≡ length gs → false ≡ defined gs (rest w) || leb most_groups (length gs)
+    not_refused f l n =
         let o : defined gs (rest w) ≡ false = sym known ∙ f in
-        let b : leb most_groups (length gs) ≡ false = lt-leb most_groups (length gs) (omega (arith, v.number)) in
+        let b : leb most_groups (length gs) ≡ false = lt-leb most_groups (length gs) (omega (arith, n)) in
         rw (o, b) refl
 
   -- nothing is changed
-  kept_all : ((x : Texts) (gs : Groups) → Ready x gs names → true ≡ defined gs (rest w) || leb most_groups (length gs)) → Defines w row names names (Err BadGroup)
-  kept_all f = record { kept = λ z. (refl, refl); few = λ z. absurd (no z); number = λ z. absurd (no z); count = λ z. absurd (no z); text = λ z. absurd (no z); values = (refl, refl); refusal = f; more = λ z. absurd (no z) }
+  kept_all : ((x : Texts) (gs : Groups) → TableReady x gs names.table → names.groups ≡ length gs → true ≡ defined gs (rest w) || leb most_groups (length gs)) → Defines w row names names (Err BadGroup)
+  kept_all f = record { kept = λ z. (refl, refl); few = λ z. absurd (no z); number = λ z. absurd (no z); count = λ z. absurd (no z); text = λ z. absurd (no z); values = (refl, refl); refusal = f; table = λ z. absurd (no z); more = λ z. absurd (no z) }
 
   module _ (r : Bool) (e : r ≡ any_of (same w) (names_of names.table.list)) where
     pub defines_twice : r ≡ true → Defines w row names names (Err BadGroup)
-    defines_twice f = kept_all (λ x gs v. refused_twice r e x gs v f)
+    defines_twice f = kept_all (λ x gs v n. refused_twice r e x gs v f)
 
     -- one group more, with the words that the row is that of
     module _ (f : r ≡ false) (names' : Names) (u : NewRow names.table names'.table (text_of names.table.list ++ w) w row)
         (few : names.groups < most_groups) (grown : names'.groups ≡ names.groups + 1)
         (kept : (names'.bounds ≡ names.bounds) × (names'.layouts ≡ names.layouts)) where
-      group_ready : (x : Texts) (gs : Groups) (ms : Words) → Ready x gs names → all_of ordinary ms ≡ true → Joined names.table ms row →
-          Ready x (record { name = rest w; members = ms } ∷ gs) names'
-      group_ready x gs ms v a j =
+      group_table : (x : Texts) (gs : Groups) (ms : Words) → TableReady x gs names.table → all_of ordinary ms ≡ true → Joined names.table ms row →
+          TableReady x (record { name = rest w; members = ms } ∷ gs) names'.table
+      group_table x gs ms v a j =
           record {
             held =
                 compiled_new names.table names'.table (text_of names.table.list ++ w) w row u (let l = names.few in omega arith) (asks gs (profile_of x))
@@ -76,9 +76,6 @@ module _ (w : Text) (h : has_dollar w ≡ true) (row : Row) (names : Names) wher
                 ∙ (any_cons (same (36 ∷ y)) w (names_of names.table.list)
                 ∙ (ap (λ (z : Text). same (36 ∷ y) z || any_of (same (36 ∷ y)) (names_of names.table.list)) (dollar_word w h)
                 ∙ (rw (same_dollar y (rest w), v.listed y) refl ∙ sym (defined_cons (record { name = rest w; members = ms }) gs y))));
-            number = omega (arith, grown, v.number);
-            values = rw (u.text, kept.0) (values_longer x (text_of names.table.list) w names.bounds v.values);
-            layouts = kept.1 ∙ v.layouts;
           }
         where
           renewed : Renewed (asks gs (profile_of x)) (asks (record { name = rest w; members = ms } ∷ gs) (profile_of x)) (layout_count (profile_of x)) w row
@@ -94,6 +91,16 @@ module _ (w : Text) (h : has_dollar w ≡ true) (row : Row) (names : Names) wher
                     };
               }
 
+      group_ready : (x : Texts) (gs : Groups) (ms : Words) → Ready x gs names → all_of ordinary ms ≡ true → Joined names.table ms row →
+          Ready x (record { name = rest w; members = ms } ∷ gs) names'
+      group_ready x gs ms v a j =
+          record {
+            table = group_table x gs ms v.table a j;
+            number = omega (arith, grown, v.number);
+            values = rw (u.text, kept.0) (values_longer x (text_of names.table.list) w names.bounds v.values);
+            layouts = kept.1 ∙ v.layouts;
+          }
+
       pub defines_more : Defines w row names names' (Ok (tt {0}))
       defines_more =
           record {
@@ -103,6 +110,7 @@ module _ (w : Text) (h : has_dollar w ≡ true) (row : Row) (names : Names) wher
             count = λ z. u.count;
             text = λ z. u.text;
             values = kept;
-            refusal = λ x gs v. not_refused r e x gs v f few;
+            refusal = λ x gs v n. not_refused r e x gs v f few n;
+            table = λ z x gs ms v a j. group_table x gs ms v a j;
             more = λ z x gs ms v a j. group_ready x gs ms v a j;
           }

@@ -13,7 +13,7 @@ use Rattle.listing.specs.Lists.{text_of, names_of}
 use Rattle.names.specs.declared.Row.{Row}
 use Rattle.names.specs.declared.Names.{Names}
 use Rattle.names.specs.Compiled.{Joined}
-use Rattle.names.specs.Ready.{Ready}
+use Rattle.names.specs.Ready.{TableReady, Ready}
 
 -- there is room for a name, if it is not refused
 abbrev pub RoomForName : Text → Names → Type 0
@@ -24,7 +24,7 @@ abbrev pub RoomForGroups : Names → Type 0
 RoomForGroups names = names.table.list.used + (most_groups - names.groups) * longest_word ≤ text_size
 
 -- The group of the name w, `$` with it, and of a row: refused, and nothing is changed; or the name is copied behind the text and listed. If the row is that of
--- some words, there is one group more, with these words, for every profile and all groups that the names are held for.
+-- some words, there is one group more, with these words, for every profile and all groups that the table is held for, and that the names are.
 pub record Defines (w : Text) (row : Row) (names names' : Names) (r : Result (Unit {0}) Fault) : Type 0 where
   pub kept : IsErr r → (names' ≡ names) × (r ≡ Err BadGroup)
   pub few : IsOk r → names.groups < most_groups
@@ -32,6 +32,8 @@ pub record Defines (w : Text) (row : Row) (names names' : Names) (r : Result (Un
   pub count : IsOk r → names'.table.list.count ≡ names.table.list.count + 1
   pub text : IsOk r → text_of names'.table.list ≡ text_of names.table.list ++ w
   pub values : (names'.bounds ≡ names.bounds) × (names'.layouts ≡ names.layouts)
-  pub refusal : (x : Texts) (gs : Groups) → Ready x gs names → is_err r ≡ defined gs (rest w) || leb most_groups (length gs)
+  pub refusal : (x : Texts) (gs : Groups) → TableReady x gs names.table → names.groups ≡ length gs → is_err r ≡ defined gs (rest w) || leb most_groups (length gs)
+  pub table : IsOk r → (x : Texts) (gs : Groups) (ms : Words) → TableReady x gs names.table → all_of ordinary ms ≡ true → Joined names.table ms row →
+      TableReady x (record { name = rest w; members = ms } ∷ gs) names'.table
   pub more : IsOk r → (x : Texts) (gs : Groups) (ms : Words) → Ready x gs names → all_of ordinary ms ≡ true → Joined names.table ms row →
       Ready x (record { name = rest w; members = ms } ∷ gs) names'

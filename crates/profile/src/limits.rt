@@ -34,7 +34,8 @@ pub fn bad_fields(text: &[u8]) -> bool
             return true;
         }
         if b == b',' {
-            if 64 < i - start {
+            let long = 64 < i - start;
+            if long {
                 return true;
             }
             start = i + 1;

@@ -18,7 +18,8 @@ use Rattle.rules.specs.Checking.{no_heading, check_from}
 use Rattle.rules.proofs.LineChecks.{lines_checked}
 use Rattle.firing.specs.declared.Cursors.{Cursors}
 use Rattle.firing.specs.Writing.{Low, run_buf, run_cur}
-use Rattle.rules.specs.Held.{heading_by}
+use Rattle.rules.specs.Held.{SetSized}
+use Rattle.rules.proofs.HeldHeadings.{columns_length}
 use Rattle.names.specs.declared.Names.{Names}
 use Rattle.names.specs.Defining.{RoomForGroups}
 use Rattle.answers.specs.Firings.{file_firings}
@@ -27,15 +28,15 @@ use Rattle.reading.specs.Order.{firings_from}
 use Rattle.reading.specs.Owed.{owed}
 use Rattle.reading.specs.Opening.{closed_set}
 use Rattle.reading.specs.Keeping.{most_places}
-use Rattle.reading.specs.States.{Sound, ReadTo}
+use Rattle.reading.specs.States.{NamesKept, Sound, ReadTo}
 use Rattle.reading.specs.Steps.{Leads, Stepped}
 use Rattle.reading.specs.Files.{Started, HoldsProfile, FileReadOf}
 use Rattle.reading.proofs.LineFires.{firings_start}
-use Rattle.reading.proofs.Stepping.{owed_closed, closed_kept}
+use Rattle.reading.proofs.Stepping.{owed_closed, closed_kept, names_same, names_then}
 
-pub started : (q : Cursors) (g : SetHeading) → 1 ≤ length (heading_by g).columns →
+pub started : (q : Cursors) (g : SetHeading) → SetSized g →
     Started q (record { at = record { at = 0; line = 1 }; set = closed_set no_heading g; places = replicate most_places 0; cursors = q })
-started q g v = record { heading = g; columns = v; is = refl }
+started q g v = record { heading = g; sized = v; columns = rw (columns_length g) v.some; is = refl }
 
 first_lines : (s : Text) → follow s 0 1 ≡ lines s
 unfolding follow lines
@@ -44,6 +45,7 @@ first_lines s = refl
 module _ (s : Text) (names₀ : Names) (w₀ : Text) (q₀ : Cursors) where
   -- the loop: the file is read up to a state
   pub record Reads (names : Names) (x w : Text) (r : Reading) : Type 0 where
+    pub kept : NamesKept names₀ names
     pub scratch : length x ≡ 8192
     pub buffer : length w ≡ length w₀
     pub sound : Sound s names x w r
@@ -53,6 +55,7 @@ module _ (s : Text) (names₀ : Names) (w₀ : Text) (q₀ : Cursors) where
   reads_start few room e l x z r u =
       rw u.is
       (record {
+        kept = names_same names₀;
         scratch = z;
         buffer = refl;
         sound =
@@ -61,6 +64,7 @@ module _ (s : Text) (names₀ : Names) (w₀ : Text) (q₀ : Cursors) where
               room = room;
               set =
                   record {
+                    sized = u.sized;
                     seekable = record { columns = u.columns; left = omega arith; right = omega arith; heading = λ f. absurd (f refl) };
                     among = λ f k i j. absurd (omega arith);
                     all = record { all = λ f. absurd (no f) };
@@ -97,6 +101,7 @@ module _ (s : Text) (names₀ : Names) (w₀ : Text) (q₀ : Cursors) where
     pub reads_more : o ≡ Ok true → Reads names' x' w' r'
     reads_more e =
         record {
+          kept = names_then names₀ names names' v.kept g.kept;
           scratch = g.scratch ∙ v.scratch;
           buffer = g.buffer ∙ v.buffer;
           sound = g.sound e;
@@ -106,9 +111,10 @@ module _ (s : Text) (names₀ : Names) (w₀ : Text) (q₀ : Cursors) where
     pub reads_less : o ≡ Ok true → length s - r'.at.at < length s - r.at.at
     reads_less e = omega (arith, g.further e, (g.sound e).within.high)
 
-    pub reads_end : o ≡ Ok false → FileReadOf s names₀ w₀ w' q₀ (Ok r'.cursors)
+    pub reads_end : o ≡ Ok false → FileReadOf s names₀ names' w₀ w' q₀ (Ok r'.cursors)
     reads_end e =
         record {
+          kept = names_then names₀ names names' v.kept g.kept;
           long = g.buffer ∙ v.buffer;
           refused = λ p m f i. cc;
           accepted = λ p m q i.
@@ -117,9 +123,10 @@ module _ (s : Text) (names₀ : Names) (w₀ : Text) (q₀ : Cursors) where
               (a.faults, a.bytes, sym j ∙ a.places);
         }
 
-    pub reads_refused : (f : Refusal) → o ≡ Err f → FileReadOf s names₀ w₀ w' q₀ (Err f)
+    pub reads_refused : (f : Refusal) → o ≡ Err f → FileReadOf s names₀ names' w₀ w' q₀ (Err f)
     reads_refused f e =
         record {
+          kept = names_then names₀ names names' v.kept g.kept;
           long = g.buffer ∙ v.buffer;
           refused = λ p m f' i.
               let a : Leads w₀ q₀ s names' w' p r' (Err f) = rw e at (g.means w₀ q₀ p (v.reads p m)) in

@@ -38,10 +38,10 @@ use Rattle.reading.specs.Order.{firings_from}
 use Rattle.reading.specs.Owed.{Kept, owed}
 use Rattle.reading.specs.Seeking.{SetOpen}
 use Rattle.reading.specs.Opening.{closed_set}
-use Rattle.reading.specs.States.{names_of}
+use Rattle.reading.specs.States.{NamesKept, names_of}
 use Rattle.reading.specs.Heads.{AtHeading, AtGroup, HeadRead}
 use Rattle.reading.proofs.HeadLines.{fires_group, faults_wrong, faults_twice, faults_group}
-use Rattle.reading.proofs.Stepping.{heading_first, owed_closed, closed_kept}
+use Rattle.reading.proofs.Stepping.{heading_first, owed_closed, closed_kept, names_same}
 
 -- a group's words have no refusal of their own, so its name is short
 
@@ -69,6 +69,7 @@ group_short w ws g ms e = ltb-false longest_word (length w) (neither (ltb longes
 none_open : (n : ℕ) (o : OpenSet) → SetOpen n o → SetOpen n (closed_set no_heading o.set)
 none_open n o v =
     record {
+      sized = v.sized;
       seekable = record { columns = v.seekable.columns; left = omega arith; right = omega arith; heading = λ z. absurd (z refl) };
       among = λ e k a b. absurd (omega arith);
       all = record { all = λ e. absurd (no e) };
@@ -84,18 +85,20 @@ module _ (s : Text) (names : Names) (r : Reading) (x : FirstWord) (h : AtGroup s
       heading_first s r.at.at r.at.line h.from.at h.from.line h.heading.inside h.heading.opens
       ∙ rw (h.words, h.onto, v.passed.onto) refl
 
-  refused_as_lem : (names' : Names) (f : Fault) →
+  refused_as_lem : (names' : Names) → names' ≡ names → (f : Fault) →
       ((p : Texts) (gs : Groups) → Ready p gs names → first_refusal (check_from (names_of gs) r.set.present (follow s r.at.at r.at.line)) ≡ record { number = number_of f; place = r.at.line }) →
       HeadRead s names names' r r (Err (record { fault = f; place = r.at.line }))
-  refused_as_lem names' f e =
+  refused_as_lem names' stay f e =
       record {
+        kept = rw stay (names_same names);
+        refused = λ z. (stay, refl);
         steps = λ y w u.
-            record { scratch = refl; buffer = refl; sound = λ c. cc; further = λ c. cc; means = λ w₀ q₀ p a. rw a.faults (e p a.groups a.ready) };
+            record { kept = rw stay (names_same names); scratch = refl; buffer = refl; sound = λ c. cc; further = λ c. cc; means = λ w₀ q₀ p a. rw a.faults (e p a.groups a.ready) };
       }
 
   pub group_refused : (f : Fault) → g.fault ≡ Some f → HeadRead s names names r r (Err (record { fault = f; place = r.at.line }))
   group_refused f z =
-      refused_as_lem names f
+      refused_as_lem names refl f
       (λ p gs a. rw line
       (faults_wrong (names_of gs) r.set.present r.at.line (line_words s x) (follow s g.next.at g.next.line) (number_of f) (number_some f)
       (entry_any r.at.line true (line_words s x) ∙ v.wrong f z)))
@@ -115,10 +118,10 @@ module _ (s : Text) (names : Names) (r : Reading) (x : FirstWord) (h : AtGroup s
       group_twice f i =
           let k = q.kept (rw i refl) in
           let b : f ≡ BadGroup = cc in
-          refused_as_lem names' f
+          refused_as_lem names' k.0 f
           (λ p gs a. rw (b, line)
           (faults_twice gs r.set.present r.at.line (line_words s x) (follow s g.next.at g.next.line) (rest name) (members_in s x) entry
-          (sym (q.refusal p gs a) ∙ rw i refl)))
+          (sym (q.refusal p gs a.table a.number) ∙ rw i refl)))
 
       module _ (u : Unit {0}) (i : e ≡ Ok u) where
         abbrev grouped : Reading
@@ -129,6 +132,9 @@ module _ (s : Text) (names : Names) (r : Reading) (x : FirstWord) (h : AtGroup s
             let t : length (text_of names'.table.list) ≡ length (text_of names.table.list) + length name =
             ap length (q.text (rw i refl)) ∙ length-append (text_of names.table.list) name in
             omega (arith, t, names.table.list.long, names'.table.list.long, room, name_short, q.few (rw i refl), q.number (rw i refl))
+
+        names_kept : NamesKept names names'
+        names_kept = record { places = q.values.0; layouts = q.values.1; room = room_left; limit = λ v. omega (arith, q.few (rw i refl), q.number (rw i refl)) }
 
         owes_all : (gs : Groups) (p : Texts) (kept : Kept) → owed gs (profile_of p) r.set kept (follow s r.at.at r.at.line) ≡
             owed (record { name = rest name; members = members_in s x } ∷ gs) (profile_of p) (closed_set no_heading r.set.set) kept (follow s g.next.at g.next.line)
@@ -142,8 +148,11 @@ module _ (s : Text) (names : Names) (r : Reading) (x : FirstWord) (h : AtGroup s
         pub group_more : HeadRead s names names' r grouped (Ok (tt {0}))
         group_more =
             record {
+              kept = names_kept;
+              refused = λ c. absurd (no c);
               steps = λ y w v₀.
                   record {
+                    kept = names_kept;
                     scratch = refl;
                     buffer = refl;
                     sound = λ c.
@@ -165,7 +174,7 @@ module _ (s : Text) (names : Names) (r : Reading) (x : FirstWord) (h : AtGroup s
                           words = λ k j l. absurd (omega arith);
                           faults = a.faults ∙ rw line
                               (faults_group a.groups r.set.present r.at.line (line_words s x) (follow s g.next.at g.next.line) (rest name) (members_in s x) entry
-                              (sym (q.refusal p a.groups a.ready) ∙ rw i refl));
+                              (sym (q.refusal p a.groups a.ready.table a.ready.number) ∙ rw i refl));
                           writes =
                               record {
                                 long = a.writes.long;

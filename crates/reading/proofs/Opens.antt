@@ -68,6 +68,7 @@ module _ (h : SetHeading) (n : ℕ) (sized : SetSized h) (one : FromOne h.index)
       (record {
         held =
             record {
+              sized = sized;
               seekable = record { columns = rw (columns_length h) sized.some; left = rw e sized.left; right = rw e h.components.few; heading = λ y. absurd (y refl) };
               among = λ j k a b. absurd (omega arith);
               all = record { all = λ y. absurd (no y) };
@@ -103,6 +104,7 @@ module _ (h : SetHeading) (n : ℕ) (sized : SetSized h) (one : FromOne h.index)
         record {
           held =
               record {
+                sized = sized;
                 seekable =
                     record {
                       columns = rw (columns_length h) sized.some;

@@ -19,9 +19,9 @@ use Rattle.reading.specs.Profiled.{ReadFor}
 pub one_digit : (x : Texts) → profile_refusals x ≡ [] → (names : Names) → Ready x [] names → names.layouts < 10
 one_digit x f names v = omega (arith, v.layouts, few_layouts x f)
 
-module _ (x : Texts) (f : profile_refusals x ≡ []) (names : Names) (v : Ready x [] names) (s w w' : Text) (at : List ℕ) (r : Result Cursors Refusal) where
+module _ (x : Texts) (f : profile_refusals x ≡ []) (names names' : Names) (v : Ready x [] names) (s w w' : Text) (at : List ℕ) (r : Result Cursors Refusal) where
   holds : HoldsProfile names x
   holds = record { ready = v; variants = rw v.layouts (few_variants x f) }
 
-  pub read_told : FileReadOf s names w w' (starting_at at) r → ReadFor s x w w' at r
+  pub read_told : FileReadOf s names names' w w' (starting_at at) r → ReadFor s x w w' at r
   read_told g = record { long = g.long; refused = g.refused x holds; accepted = g.accepted x holds }

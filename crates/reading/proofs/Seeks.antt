@@ -29,7 +29,7 @@ use Rattle.bitsets.specs.Sets.{is_in}
 use Rattle.bitsets.proofs.Bits.{in_none}
 use Rattle.rules.specs.Held.{heading_by}
 use Rattle.names.specs.Rows.{Question, asks}
-use Rattle.names.specs.Ready.{Ready}
+use Rattle.names.specs.Ready.{TableReady}
 use Rattle.names.proofs.Rows.{asks_level}
 use Rattle.judging.specs.Lines.{RuleLineRead, LineRefused}
 use Rattle.names.specs.declared.Names.{Names}
@@ -127,12 +127,12 @@ module _ (names : Names) (o : OpenSet) (s : Text) where
       pub low : at ≤ i
       pub high : i ≤ length s
       pub few : m ≤ i + 1
-      pub over : (x : Texts) (gs : Groups) → Ready x gs names → SetOpen (layout_count (profile_of x)) o → PassedOver x gs o s at n i m
+      pub over : (x : Texts) (gs : Groups) → TableReady x gs names.table → SetOpen (layout_count (profile_of x)) o → PassedOver x gs o s at n i m
 
     pub seek_start : at ≤ length s → n ≤ at + 1 → Seeking at n
     seek_start h f = record { low = omega arith; high = h; few = f; over = λ x gs r u. record { faults = λ ns. refl; owes = λ kept. refl } }
 
-    answers_of : (x : Texts) (gs : Groups) → Ready x gs names → SetOpen (layout_count (profile_of x)) o →
+    answers_of : (x : Texts) (gs : Groups) → TableReady x gs names.table → SetOpen (layout_count (profile_of x)) o →
         Answers (asks gs (profile_of x)) (layout_count (profile_of x)) names.table
     answers_of x gs r u = record { held = r.held; level = asks_level gs (profile_of x); some = u.some }
 
@@ -176,7 +176,7 @@ module _ (names : Names) (o : OpenSet) (s : Text) where
                   };
             }
           where
-            passed : (x : Texts) (gs : Groups) → Ready x gs names → SetOpen (layout_count (profile_of x)) o → (kept : Kept) →
+            passed : (x : Texts) (gs : Groups) → TableReady x gs names.table → SetOpen (layout_count (profile_of x)) o → (kept : Kept) →
                 (a : Bool) → eqb (length (left s from)) 0 ≡ a → (b : Bool) → eqb o.wanted 0 ≡ b →
                 owed gs (profile_of x) o kept (line_of m false (left s from) ∷ follow s next n') ≡ owed gs (profile_of x) o kept (follow s next n')
             passed x gs r u kept true z b f =
@@ -203,7 +203,7 @@ module _ (names : Names) (o : OpenSet) (s : Text) where
           behind_is : left s y.end.at ≡ drop (length H.columns) (left s from)
           behind_is = g.behind hit ∙ ap (λ (j : ℕ). drop j (left s from)) is_left
 
-          matched : (x : Texts) (gs : Groups) → Ready x gs names → SetOpen (layout_count (profile_of x)) o → (k : ℕ) → o.first ≤ k → k < o.first + o.count →
+          matched : (x : Texts) (gs : Groups) → TableReady x gs names.table → SetOpen (layout_count (profile_of x)) o → (k : ℕ) → o.first ≤ k → k < o.first + o.count →
               is_in k y.layouts ≡ (is_in k o.wanted && rule_matches (members gs) (profile_of x) k H.columns (left s from))
           matched x gs r u k a b =
               rw (← asked_rule gs (profile_of x) k H.columns (left s from) (enough_of wanted nonblank))

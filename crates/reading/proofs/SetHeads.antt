@@ -31,7 +31,7 @@ use Rattle.reading.specs.Opening.{Opened}
 use Rattle.reading.specs.States.{names_of}
 use Rattle.reading.specs.Heads.{AtHeading, HeadRead}
 use Rattle.reading.proofs.HeadLines.{fires_set, faults_wrong, faults_set}
-use Rattle.reading.proofs.Stepping.{heading_first, owed_closed}
+use Rattle.reading.proofs.Stepping.{heading_first, owed_closed, names_same}
 
 owed_is : (gs : _) (x : Texts) (o : OpenSet) (kept : Kept) (ls : List Line) → owed gs (profile_of x) o kept ls ≡ set_owes (members gs) (profile_of x) o kept (rules_from ls) ++ firings_from gs (profile_of x) ls
 unfolding owed
@@ -45,8 +45,11 @@ module _ (s : Text) (names : Names) (r : Reading) (words : Spot) (h : AtHeading 
   pub set_refused : (f : Fault) → l.set ≡ Err f → HeadRead s names names r r (Err (record { fault = f; place = r.at.line }))
   set_refused f e =
       record {
+        kept = names_same names;
+        refused = λ z. (refl, refl);
         steps = λ x w u.
             record {
+              kept = names_same names;
               scratch = refl;
               buffer = refl;
               sound = λ y. cc;
@@ -82,8 +85,11 @@ module _ (s : Text) (names : Names) (r : Reading) (words : Spot) (h : AtHeading 
       pub set_opened : HeadRead s names names r (record { at = l.next; set = o; places = r.places; cursors = r.cursors }) (Ok (tt {0}))
       set_opened =
           record {
+            kept = names_same names;
+            refused = λ z. absurd (no z);
             steps = λ x w u.
                 record {
+                  kept = names_same names;
                   scratch = refl;
                   buffer = refl;
                   sound = λ y.

@@ -43,7 +43,7 @@ use Rattle.reading.specs.Owed.{Kept, wanting, keeping, owed, kept_fires}
 use Rattle.reading.specs.Seeking.{SetOpen, Without, RuleFound, Seeks}
 use Rattle.reading.specs.Keeping.{most_places, Noted, KeptPlaces, KeptFired}
 use Rattle.reading.specs.Opening.{closed_set}
-use Rattle.reading.specs.States.{names_of, Sound, ReadTo}
+use Rattle.reading.specs.States.{names_of, Sound, ReadTo, NamesKept}
 use Rattle.reading.specs.Closing.{held_profile, closed_at}
 use Rattle.reading.specs.Steps.{Stepped}
 use Rattle.reading.proofs.Keeps.{fires_on}
@@ -61,10 +61,18 @@ pub owed_closed : (gs : Groups) (x : Texts) (p : Present) (h : SetHeading) (kept
 unfolding owed
 owed_closed gs x p h kept ls = rw (owes_nothing (members gs) (profile_of x) p h kept (rules_from ls)) refl
 
+-- what is not looked at stays
+pub names_same : (names : Names) → NamesKept names names
+names_same names = record { places = refl; layouts = refl; room = λ v. v; limit = λ v. v }
+
+pub names_then : (a b c : Names) → NamesKept a b → NamesKept b c → NamesKept a c
+names_then a b c v w = record { places = w.places ∙ v.places; layouts = w.layouts ∙ v.layouts; room = λ z. w.room (v.room z); limit = λ z. w.limit (v.limit z) }
+
 pub closed_open : (n : ℕ) (o : OpenSet) → SetOpen n o → SetOpen n (closed_set o.present o.set)
 closed_open n o v =
     let a = v.seekable in
     record {
+      sized = v.sized;
       seekable = record { columns = a.columns; left = a.left; right = a.right; heading = λ z. absurd (z refl) };
       among = λ e k a b. absurd (omega arith);
       all = record { all = λ e. absurd (no e) };
@@ -154,7 +162,7 @@ module _ (s : Text) (names : Names) (x w : Text) (r : Reading) (v : Sound s name
         }
 
     found_for : (w₀ : Text) (q₀ : Cursors) (p : Texts) (u : ReadTo w₀ q₀ s names w p r) → RuleFound p u.groups r.set s r.at.at r.at.line place m next.at next.line
-    found_for w₀ q₀ p u = g.means p u.groups u.ready (rw (← u.ready.layouts) v.set)
+    found_for w₀ q₀ p u = g.means p u.groups u.ready.table (rw (← u.ready.layouts) v.set)
 
     words_kept : (w₀ : Text) (q₀ : Cursors) (p : Texts) (u : ReadTo w₀ q₀ s names w p r) → (k : ℕ) → r.set.first ≤ k → k < r.set.first + r.set.count → is_in k o' ≡ false →
         drop 1 (left s (get_or ps' k 0)) ≡ right_words (heading_by r.set.set) (keeping m (found_for w₀ q₀ p u).rule u.rules k).text
@@ -183,6 +191,7 @@ module _ (s : Text) (names : Names) (x w : Text) (r : Reading) (v : Sound s name
             room = v.room;
             set =
                 record {
+                  sized = v.set.sized;
                   seekable = record { columns = a.columns; left = a.left; right = a.right; heading = λ z. a.heading g.place.1 };
                   among = v.set.among;
                   all = record { all = λ z. absurd (no (sym once ∙ z)) };
@@ -212,7 +221,7 @@ module _ (s : Text) (names : Names) (x w : Text) (r : Reading) (v : Sound s name
           }
 
       pub step_keep : Stepped s names names x x w w r kept_on (Ok true)
-      step_keep = record { scratch = refl; buffer = refl; sound = λ z. keep_sound; further = λ z. g.place.2; means = λ w₀ q₀ p u. keep_read w₀ q₀ p u }
+      step_keep = record { kept = names_same names; scratch = refl; buffer = refl; sound = λ z. keep_sound; further = λ z. g.place.2; means = λ w₀ q₀ p u. keep_read w₀ q₀ p u }
 
     -- each matching rule fires at once
     module _ (each : r.set.every ≡ true) (x' w' : Text) (q' : Cursors) (long : length x' ≡ length x)
@@ -253,6 +262,7 @@ module _ (s : Text) (names : Names) (x w : Text) (r : Reading) (v : Sound s name
       pub step_fire : Stepped s names names x x' w w' r fired_on (Ok true)
       step_fire =
           record {
+            kept = names_same names;
             scratch = long;
             buffer = fired_long (wanting r.set o') ps' x' w' q' long f;
             sound = λ z. fire_sound;
@@ -264,11 +274,12 @@ module _ (s : Text) (names : Names) (x w : Text) (r : Reading) (v : Sound s name
   pub step_refused : (e : Refusal) → Seeks names r.set s r.at.at r.at.line (Err e) → Stepped s names names x x w w r r (Err e)
   step_refused e g =
       record {
+        kept = names_same names;
         scratch = refl;
         buffer = refl;
         sound = λ z. cc;
         further = λ z. cc;
-        means = λ w₀ q₀ p u. rw u.faults (g.means p u.groups u.ready (rw (← u.ready.layouts) v.set) (names_of u.groups));
+        means = λ w₀ q₀ p u. rw u.faults (g.means p u.groups u.ready.table (rw (← u.ready.layouts) v.set) (names_of u.groups));
       }
 
   -- the end of the file
@@ -277,12 +288,13 @@ module _ (s : Text) (names : Names) (x w : Text) (r : Reading) (v : Sound s name
     pub step_end : (i : Spot) → Stepped s names names x x' w w' r (closed_at r i q') (Ok false)
     step_end i =
         record {
+          kept = names_same names;
           scratch = long;
           buffer = fired_long r.set r.places x' w' q' long f;
           sound = λ z. cc;
           further = λ z. cc;
           means = λ w₀ q₀ p u.
-              let h = g.means p u.groups u.ready (rw (← u.ready.layouts) v.set) in
+              let h = g.means p u.groups u.ready.table (rw (← u.ready.layouts) v.set) in
               let y = fired_writes r.set r.places x' w' q' long f w₀ q₀ p u u.rules [] u.words
               (h.1 u.rules ∙ owed_end u.groups (profile_of p) r.set v.set.all u.rules) in
               record {
@@ -300,7 +312,7 @@ module _ (s : Text) (names : Names) (x w : Text) (r : Reading) (v : Sound s name
 
     heading_read : (w₀ : Text) (q₀ : Cursors) (p : Texts) (u : ReadTo w₀ q₀ s names w p r) → ReadTo w₀ q₀ s names w' p (closed_at r i q')
     heading_read w₀ q₀ p u =
-        let h = g.means p u.groups u.ready (rw (← u.ready.layouts) v.set) in
+        let h = g.means p u.groups u.ready.table (rw (← u.ready.layouts) v.set) in
         let c = heading_first s i.at i.line words.at words.line g.place.1 g.place.3 in
         closed_read x' w' q' long f i w₀ q₀ p u (h.faults (names_of u.groups))
         (h.owes u.rules ∙ rw c (owed_close u.groups (profile_of p) r.set v.set.all u.rules i.line (left s words.at) (ahead s words.at words.line)))
@@ -309,6 +321,7 @@ module _ (s : Text) (names : Names) (x w : Text) (r : Reading) (v : Sound s name
         Stepped s names names' x x' w w' r r' o
     step_heading names' r' o a =
         record {
+          kept = a.kept;
           scratch = long;
           buffer = closed_long x' w' q' long f i;
           sound = a.sound;

@@ -10,17 +10,19 @@ use Rattle.rules.specs.Faults.{line_faults}
 use Rattle.rules.specs.Checking.{no_heading}
 use Rattle.firing.specs.declared.Cursors.{Cursors}
 use Rattle.firing.specs.Writing.{run_buf, run_cur}
-use Rattle.rules.specs.Held.{heading_by}
+use Rattle.rules.specs.Held.{heading_by, SetSized}
 use Rattle.names.specs.declared.Names.{Names}
 use Rattle.names.specs.Ready.{Ready}
 use Rattle.answers.specs.Firings.{file_firings}
 use Rattle.reading.specs.declared.Reading.{Reading}
 use Rattle.reading.specs.Opening.{closed_set}
 use Rattle.reading.specs.Keeping.{most_places}
+use Rattle.reading.specs.States.{NamesKept}
 
 -- before the first line: no set
 pub record Started (q : Cursors) (r : Reading) : Type 0 where
   pub heading : SetHeading
+  pub sized : SetSized heading
   pub columns : 1 ≤ length (heading_by heading).columns
   pub is : r ≡ record { at = record { at = 0; line = 1 }; set = closed_set no_heading heading; places = replicate most_places 0; cursors = q }
 
@@ -30,7 +32,8 @@ pub record HoldsProfile (names : Names) (x : Texts) : Type 0 where
   pub variants : length (profile_of x).variants ≤ names.layouts
 
 -- For every profile that the names hold: the first refusal of the lines; or there is none, and all that fires is written.
-pub record FileReadOf (s : Text) (names : Names) (w w' : Text) (q : Cursors) (r : Result Cursors Refusal) : Type 0 where
+pub record FileReadOf (s : Text) (names names' : Names) (w w' : Text) (q : Cursors) (r : Result Cursors Refusal) : Type 0 where
+  pub kept : NamesKept names names'
   pub long : length w' ≡ length w
   pub refused : (x : Texts) → HoldsProfile names x → (e : Refusal) → r ≡ Err e → first_refusal (line_faults s) ≡ told_refusal e
   pub accepted : (x : Texts) → HoldsProfile names x → (q' : Cursors) → r ≡ Ok q' →

@@ -1,5 +1,5 @@
 -- A heading read: a set is opened, or a group defined.
-use Rattle.std.specs.Prelude.{◌≤◌, ◌<◌, ◌≡◌, Bool, true, length, Result, Ok, Err}
+use Rattle.std.specs.Prelude.{◌≤◌, ◌<◌, ◌≡◌, Bool, true, length, Result, Ok, Err, IsErr}
 use Rattle.text.specs.declared.Spot.{Spot}
 use Rattle.text.specs.declared.faults.Refusal.{Refusal}
 use Rattle.text.specs.Bytes.{Text}
@@ -9,7 +9,7 @@ use Rattle.judging.specs.declared.FirstWord.{FirstWord}
 use Rattle.judging.specs.Groups.{line_words}
 use Rattle.reading.specs.declared.Reading.{Reading}
 use Rattle.reading.specs.Opening.{closed_set}
-use Rattle.reading.specs.States.{Sound}
+use Rattle.reading.specs.States.{NamesKept, Sound}
 use Rattle.reading.specs.Steps.{Stepped}
 
 -- the next line is a heading, whose words begin at `words`, and no set is being read
@@ -31,6 +31,8 @@ abbrev pub going : Result (Unit {0}) Refusal → Result Bool Refusal
 going (Ok u) = Ok true
 going (Err e) = Err e
 
--- a group is defined, or a set opened; the scratch and the buffer are not looked at
+-- A group is defined, or a set opened; or it is refused, and nothing is changed. The scratch and the buffer are not looked at.
 pub record HeadRead (s : Text) (names names' : Names) (r r' : Reading) (o : Result (Unit {0}) Refusal) : Type 0 where
+  pub kept : NamesKept names names'
+  pub refused : IsErr o → (names' ≡ names) × (r' ≡ r)
   pub steps : (x w : Text) → Sound s names x w r → Stepped s names names' x x w w r r' (going o)

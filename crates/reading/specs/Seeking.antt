@@ -11,9 +11,9 @@ use Rattle.rules.specs.Faults.{Groups, right_words}
 use Rattle.rules.specs.Checking.{present_of, check_from}
 use Rattle.answers.specs.Layouts.{per_layout}
 use Rattle.bitsets.specs.Sets.{is_in}
-use Rattle.rules.specs.Held.{heading_by}
+use Rattle.rules.specs.Held.{heading_by, SetSized}
 use Rattle.names.specs.declared.Names.{Names}
-use Rattle.names.specs.Ready.{Ready}
+use Rattle.names.specs.Ready.{TableReady}
 use Rattle.reading.specs.declared.OpenSet.{OpenSet}
 use Rattle.reading.specs.declared.Sought.{Sought}
 use Rattle.reading.specs.declared.Sought.TheVariants as sought
@@ -29,6 +29,7 @@ pub record Seekable (o : OpenSet) : Type 0 where
 
 -- a set as it is read: what its rules are held to, and its layouts among n
 pub record SetOpen (n : ℕ) (o : OpenSet) : Type 0 where
+  pub sized : SetSized o.set
   pub seekable : Seekable o
   pub among : any_of per_layout (heading_by o.set).columns ≡ true → (k : ℕ) → o.first ≤ k → k < o.first + o.count → (1 ≤ k) × (k ≤ n)
   pub all : AllWanted o
@@ -68,7 +69,7 @@ SoughtOf x gs o s at n (Ok sought.End) = ((ns : List Text) → check_from ns o.p
     × ((kept : Kept) → owed gs (profile_of x) o kept (follow s at n) ≡ owed gs (profile_of x) o kept [])
 SoughtOf x gs o s at n (Err e) = (ns : List Text) → first_refusal (check_from ns o.present (follow s at n)) ≡ told_refusal e
 
--- for every profile and all groups that the names are held for
+-- for every profile and all groups that the table is held for
 pub record Seeks (names : Names) (o : OpenSet) (s : Text) (at n : ℕ) (r : Result Sought Refusal) : Type 0 where
   pub place : SoughtAt o s at r
-  pub means : (x : Texts) (gs : Groups) → Ready x gs names → SetOpen (layout_count (profile_of x)) o → SoughtOf x gs o s at n r
+  pub means : (x : Texts) (gs : Groups) → TableReady x gs names.table → SetOpen (layout_count (profile_of x)) o → SoughtOf x gs o s at n r

@@ -1,5 +1,6 @@
 -- How far a reading has come.
 use Rattle.std.specs.Prelude.{ℕ, ◌+◌, ◌≤◌, ◌<◌, ◌≡◌, List, [], map, false, length, get_or, drop}
+use Rattle.text.specs.Limits.{most_groups}
 use Rattle.text.specs.Bytes.{Text}
 use Rattle.text.specs.Reading.{left, follow}
 use Rattle.text.specs.Sources.{Within}
@@ -23,6 +24,13 @@ use Rattle.reading.specs.Keeping.{KeptPlaces}
 -- the names of the groups so far
 abbrev pub names_of : Groups → List Text
 names_of gs = map (λ (g : Group). g.name) gs
+
+-- The values' places and the layout count stay; there is still room for the groups that may come, and there are no more than 64.
+pub record NamesKept (names names' : Names) : Type 0 where
+  pub places : names'.bounds ≡ names.bounds
+  pub layouts : names'.layouts ≡ names.layouts
+  pub room : RoomForGroups names → RoomForGroups names'
+  pub limit : names.groups ≤ most_groups → names'.groups ≤ most_groups
 
 -- A reading can go on from here: the file s, the scratch x and the buffer w.
 pub record Sound (s : Text) (names : Names) (x w : Text) (r : Reading) : Type 0 where

@@ -9,7 +9,7 @@ use Rattle.rules.specs.Faults.{line_faults}
 use Rattle.firing.specs.declared.Cursors.{Cursors}
 use Rattle.names.specs.declared.Names.{Names}
 use Rattle.reading.specs.declared.Reading.{Reading}
-use Rattle.reading.specs.States.{Sound, ReadTo, ReadAll}
+use Rattle.reading.specs.States.{NamesKept, Sound, ReadTo, ReadAll}
 
 -- what a step leads to, for a profile: more to read, the end, or the first refusal
 abbrev pub Leads : Text → Cursors → Text → Names → Text → Texts → Reading → Result Bool Refusal → Type 0
@@ -19,6 +19,7 @@ Leads w₀ q₀ s names w x r (Err e) = first_refusal (line_faults s) ≡ told_r
 
 -- a step from the state r to r', with the outcome o; the names, the scratch x and the buffer w go on with it
 pub record Stepped (s : Text) (names names' : Names) (x x' w w' : Text) (r r' : Reading) (o : Result Bool Refusal) : Type 0 where
+  pub kept : NamesKept names names'
   pub scratch : length x' ≡ length x
   pub buffer : length w' ≡ length w
   pub sound : o ≡ Ok true → Sound s names' x' w' r'

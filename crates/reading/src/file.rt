@@ -1,7 +1,7 @@
 // A file read to its end, or to its first refused line.
 ghost use Rattle.std.specs.Prelude.{◌≡◌, ◌≤◌, ◌<◌, length};
 ghost use Rattle.output.specs.Store.{farthest};
-ghost use Rattle.rules.specs.Held.{heading_by};
+ghost use Rattle.rules.specs.Held.{SetSized};
 ghost use Rattle.firing.specs.Writing.{Low};
 ghost use Rattle.names.specs.Defining.{RoomForGroups};
 ghost use Rattle.reading.specs.Owed.{wanting};
@@ -24,7 +24,7 @@ use text::source::Source;
 
 // Stands for the heading where there is no set.
 fn no_set() -> SetHeading
-    ensures { 1 ≤ length (heading_by result).columns }
+    ensures { SetSized result }
 {
     SetHeading {
         columns: Listing {
@@ -130,7 +130,7 @@ pub fn read_file(
     q: Cursors,
 ) -> Result<Cursors, Refusal>
     requires { (names.old.layouts < 10) × RoomForGroups names.old × (length buf.old ≤ farthest) × Low q.at }
-    ensures { FileReadOf src.now.bytes.now names.old buf.old buf.new q result }
+    ensures { FileReadOf src.now.bytes.now names.old names.new buf.old buf.new q result }
 {
     let mut scratch = [0; 8192];
     let mut reading = Reading::new(q);

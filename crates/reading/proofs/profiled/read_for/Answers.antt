@@ -6,4 +6,4 @@ pub read_file-requires : goal.read_file-requires
 read_file-requires c = (one_digit _ c.requires.0 _ c.compile.ensures.0, c.compile.ensures.1, c.requires.1, c.requires.2)
 
 pub returns : goal.returns
-returns c = read_told _ c.requires.0 _ c.compile.ensures.0 _ _ _ _ _ (rw c.new.ensures at c.read_file.ensures)
+returns c = read_told _ c.requires.0 _ _ c.compile.ensures.0 _ _ _ _ _ (rw c.new.ensures at c.read_file.ensures)
