@@ -528,6 +528,10 @@ module _ (ws : Words) where
     abbrev pub it : SetHeading
     it = record { columns = s.columns; index = unwrap_or s.index index.Absent; components = l }
 
+    left_distinct : distinct (map column_number (concat_map columns_in (lefts ws))) ≡ true
+    unfolding left_good
+    left_distinct = (and_both (distinct (map column_number (concat_map columns_in (lefts ws)))) _ (and_both (all_of known_item (lefts ws)) _ v.good).1).0
+
     holds : Holds (heading_of (lefts ws) (rights ws)) it
     unfolding heading_of
     holds =
@@ -537,6 +541,7 @@ module _ (ws : Words) where
           columns = sym v.columns;
           components = sym u.items;
           index = first_is;
+          few_left = omega (arith, few_columns (concat_map columns_in (lefts ws)) left_distinct, ap length v.columns, listed s.columns);
         }
 
     pub set_some : IsSet ws (Some it)

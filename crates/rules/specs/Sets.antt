@@ -1,5 +1,5 @@
 -- A set heading as the code reads and holds it.
-use Rattle.std.specs.Prelude.{ℕ, ◌≡◌, map, cond, length, take, ltb, Option, Some, None, is_some}
+use Rattle.std.specs.Prelude.{ℕ, ◌≡◌, ◌≤◌, map, cond, length, take, ltb, Option, Some, None, is_some}
 use Rattle.text.specs.Bytes.{Words}
 use Rattle.rules.specs.declared.SetHeading.{SetHeading}
 use Rattle.rules.specs.Headings.{Heading, left_item, component_of, good_items, heading_of}
@@ -16,6 +16,7 @@ pub record Holds (h : Heading) (r : SetHeading) : Type 0 where
   pub columns : h.columns ≡ take r.columns.count r.columns.items
   pub components : h.components ≡ take r.components.count r.components.items
   pub index : r.index ≡ h.index
+  pub few_left : r.columns.count ≤ 4
 
 -- the heading of a line's words
 pub record IsSet (ws : Words) (r : Option SetHeading) : Type 0 where

@@ -1,5 +1,5 @@
 // Values kept in order, none twice.
-ghost use Rattle.std.specs.Prelude.{◌≡◌, ◌≤◌, ◌+◌, ◌⊎◌, ◌++◌, ◌∷◌, [], length, take, true, false, MatchOption, ⊤};
+ghost use Rattle.std.specs.Prelude.{◌≡◌, ◌≤◌, ◌+◌, ◌⊎◌, ◌++◌, ◌∷◌, [], length, take, set, true, false, MatchOption, ⊤};
 ghost use Rattle.std.specs.List.{list_any};
 
 use std::alloc::AllocError;
@@ -45,7 +45,8 @@ impl<T: Copy + Eq, const N: usize> Listing<T, N> {
     pub fn with(&self, x: T) -> Option<Listing<T, N>>
         ensures { let there = list_any (λ y. T.eq y x) (take self.now.count self.now.items) in
             MatchOption result ((self.now.count ≡ N) ⊎ (there ≡ true))
-            (λ l. (there ≡ false) × (l.count ≡ self.now.count + 1) × (take l.count l.items ≡ take self.now.count self.now.items ++ (x ∷ []))) }
+            (λ l. (there ≡ false) × (l.count ≡ self.now.count + 1) × (take l.count l.items ≡ take self.now.count self.now.items ++ (x ∷ []))
+            × (l.items ≡ set self.now.items self.now.count x)) }
     {
         if self.count == N {
             return None;
