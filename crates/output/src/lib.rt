@@ -15,27 +15,25 @@ pub fn past(at: u32, n: usize) -> u32
     (at as usize).saturating_add(n).min(FARTHEST) as u32
 }
 
-// Stores at most three bytes, each by itself: with the loop below alone a resolve took up to 28 % more instructions.
+// Stores at most three bytes, each by itself: with the loop below alone a resolve took up to 28 % more instructions. One after the other: of a `match` by the
+// number of bytes the compiler makes a jump table.
 #[tactic(auto, unfolding(crate::specs::Store::stored))]
 fn store_few(text: &[u8], out: &mut [u8], at: usize)
     requires { (length text.now ≤ 3) × (length text.now ≤ length out.old - at) }
     ensures { out.new ≡ stored out.old at text.now }
 {
-    match text {
-        [] => (),
-        [a] => {
-            out[at] = *a;
-        }
-        [a, b] => {
-            out[at] = *a;
-            out[at + 1] = *b;
-        }
-        [a, b, c, ..] => {
-            out[at] = *a;
-            out[at + 1] = *b;
-            out[at + 2] = *c;
-        }
-    }
+    let [a, behind @ ..] = text else {
+        return;
+    };
+    out[at] = *a;
+    let [b, behind @ ..] = behind else {
+        return;
+    };
+    out[at + 1] = *b;
+    let [c, ..] = behind else {
+        return;
+    };
+    out[at + 2] = *c;
 }
 
 // Stores a text, for which there is room.
