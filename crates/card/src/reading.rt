@@ -27,7 +27,7 @@ struct Sections<'a> {
 }
 
 impl<'a> Sections<'a> {
-    // Nothing where a card holds anything else. Inlined, as `judged` is: the sections are 224 bytes, and a card took a sixth more instructions while they were moved.
+    // Nothing where a card holds anything else. Inlined, as `judged` is, so that the 224 bytes of the sections are not moved.
     #[inline(always)]
     fn find(card: &'a [u8]) -> Option<Sections<'a>>
         ensures { MatchOption result (broken section_count card.now ≡ true)

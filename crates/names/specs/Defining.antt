@@ -24,7 +24,7 @@ abbrev pub RoomForGroups : Names → Type 0
 RoomForGroups names = names.table.list.used + (most_groups - names.groups) * longest_word ≤ text_size
 
 -- The group of the name w, `$` with it, and of a row: refused, and nothing is changed; or the name is copied behind the text and listed. If the row is that of
--- some words, there is one group more, with these words, for every profile and all groups that the table is held for, and that the names are.
+-- some words, there is one group more, with these words, for every profile and all groups that the table, or the names, are held for.
 pub record Defines (w : Text) (row : Row) (names names' : Names) (r : Result (Unit {0}) Fault) : Type 0 where
   pub kept : IsErr r → (names' ≡ names) × (r ≡ Err BadGroup)
   pub few : IsOk r → names.groups < most_groups

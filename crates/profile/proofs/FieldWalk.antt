@@ -5,12 +5,13 @@ use mathlib.Core.Bool.{cond}
 use lib.ListN.{drop, get_or, drop_of_length-le}
 use lib.Dec.{eqb, ltb}
 use borrow.Author.Tests.{ne_eqb, eq-eqb, lt-ltb, le-ltb}
+use Rattle.std.proofs.Math.Bool.{or-false, or_assoc}
 use Rattle.text.specs.Limits.{longest_field, longest_text}
 use Rattle.text.specs.Bytes.{Text, any_of}
 use Rattle.text.proofs.Comparing.{drop_at}
 use Rattle.profile.specs.Profile.{push, fields}
 use Rattle.profile.specs.Refusals.{outside, long_field, bad_text}
-use Rattle.profile.proofs.Splitting.{fields_nil, fields_comma, fields_other, some_field}
+use Rattle.profile.proofs.Splitting.{fields_nil, fields_comma, fields_other, length_push, some_field}
 
 -- a byte is outside, or a field is long, of a text whose first field has n bytes more
 unfoldable pub bad_from : ℕ → Text → Bool
@@ -28,14 +29,6 @@ or_turn false true true m = refl
 or_turn false true false m = refl
 or_turn false false a m = refl
 
-or_assoc : (a b c : Bool) → a || (b || c) ≡ (a || b) || c
-or_assoc true b c = refl
-or_assoc false b c = refl
-
-or_none : (a : Bool) → a || false ≡ a
-or_none true = refl
-or_none false = refl
-
 long_all : (fs : List Text) → 1 ≤ length fs → long_from 0 fs ≡ any_of long_field fs
 unfolding long_from any_of long_field
 long_all [] h = absurd (omega arith)
@@ -47,18 +40,18 @@ from_comma n t = let e : n + 0 ≡ n = omega arith in rw (long_all (fields t) (s
 
 from_byte : (n b : ℕ) (fs : List Text) → long_from n (push b fs) ≡ long_from (n + 1) fs
 unfolding long_from push any_of
-from_byte n b [] = or_none (ltb longest_field (n + 1))
+from_byte n b [] = or-false (ltb longest_field (n + 1))
 from_byte n b (f ∷ fs) = let e : n + length (b ∷ f) ≡ n + 1 + length f = omega arith in ap (λ (k : ℕ). ltb longest_field k || any_of long_field fs) e
 
 pub bad_is : (n : ℕ) (t : Text) → bad_from n t ≡ any_of outside t || long_from n (fields t)
 unfolding bad_from any_of fields long_from
-bad_is n [] = let e : n + 0 ≡ n = omega arith in sym (rw e (or_none (ltb longest_field n)))
+bad_is n [] = let e : n + 0 ≡ n = omega arith in sym (rw e (or-false (ltb longest_field n)))
 bad_is n (b ∷ r) = go (λ m. bad_is m r) (eqb b 44)
   where
     go : ((m : ℕ) → bad_from m r ≡ any_of outside r || long_from m (fields r)) → (c : Bool) →
         outside b || cond c (ltb longest_field n || bad_from 0 r) (bad_from (n + 1) r) ≡ (outside b || any_of outside r) || long_from n (cond c ([] ∷ fields r) (push b (fields r)))
     go f true = rw (f 0, from_comma n r) (or_turn (outside b) (ltb longest_field n) (any_of outside r) (long_from 0 (fields r)))
-    go f false = rw (f (n + 1), from_byte n b (fields r)) (or_assoc (outside b) (any_of outside r) (long_from (n + 1) (fields r)))
+    go f false = rw (f (n + 1), from_byte n b (fields r)) (sym (or_assoc (outside b) (any_of outside r) (long_from (n + 1) (fields r))))
 
 pub bad_short : (t : Text) → length t ≤ longest_text → bad_text t (fields t) ≡ bad_from 0 t
 unfolding bad_text
@@ -106,11 +99,6 @@ module _ (t : Text) (start i : ℕ) (v : Walked t start i) (h : i < length t) wh
     walked_byte e =
         let z : i + 1 - start ≡ i - start + 1 = omega (arith, v.low) in
         record { low = omega (arith, v.low); left = rw z (rw (fine, ne_eqb byte 44 e) at next) }
-
-length_push : (b : ℕ) (fs : List Text) → 1 ≤ length fs → length (push b fs) ≡ length fs
-unfolding push
-length_push b [] h = absurd (omega arith)
-length_push b (f ∷ fs) h = refl
 
 -- up to the byte i the fields are counted, the one that goes on with them
 pub record Counted (t : Text) (i n : ℕ) : Type 0 where

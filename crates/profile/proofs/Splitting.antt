@@ -38,7 +38,7 @@ pub behind_cons : (b : ℕ) (r : Text) → behind (b ∷ r) ≡ fields r
 unfolding behind
 behind_cons b r = refl
 
-length_push : (b : ℕ) (fs : List Text) → 1 ≤ length fs → length (push b fs) ≡ length fs
+pub length_push : (b : ℕ) (fs : List Text) → 1 ≤ length fs → length (push b fs) ≡ length fs
 unfolding push
 length_push b [] h = absurd (omega arith)
 length_push b (f ∷ fs) h = refl

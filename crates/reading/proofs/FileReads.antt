@@ -36,7 +36,7 @@ use Rattle.reading.proofs.Stepping.{owed_closed, closed_kept, names_same, names_
 
 pub started : (q : Cursors) (g : SetHeading) → SetSized g →
     Started q (record { at = record { at = 0; line = 1 }; set = closed_set no_heading g; places = replicate most_places 0; cursors = q })
-started q g v = record { heading = g; sized = v; columns = rw (columns_length g) v.some; is = refl }
+started q g v = record { heading = g; sized = v; is = refl }
 
 first_lines : (s : Text) → follow s 0 1 ≡ lines s
 unfolding follow lines
@@ -65,7 +65,7 @@ module _ (s : Text) (names₀ : Names) (w₀ : Text) (q₀ : Cursors) where
               set =
                   record {
                     sized = u.sized;
-                    seekable = record { columns = u.columns; left = omega arith; right = omega arith; heading = λ f. absurd (f refl) };
+                    seekable = record { columns = rw (columns_length u.heading) u.sized.some; left = omega arith; right = omega arith; heading = λ f. absurd (f refl) };
                     among = λ f k i j. absurd (omega arith);
                     all = record { all = λ f. absurd (no f) };
                     some = names₀.counted.0;

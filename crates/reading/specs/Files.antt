@@ -10,7 +10,7 @@ use Rattle.rules.specs.Faults.{line_faults}
 use Rattle.rules.specs.Checking.{no_heading}
 use Rattle.firing.specs.declared.Cursors.{Cursors}
 use Rattle.firing.specs.Writing.{run_buf, run_cur}
-use Rattle.rules.specs.Held.{heading_by, SetSized}
+use Rattle.rules.specs.Held.{SetSized}
 use Rattle.names.specs.declared.Names.{Names}
 use Rattle.names.specs.Ready.{Ready}
 use Rattle.answers.specs.Firings.{file_firings}
@@ -23,7 +23,6 @@ use Rattle.reading.specs.States.{NamesKept}
 pub record Started (q : Cursors) (r : Reading) : Type 0 where
   pub heading : SetHeading
   pub sized : SetSized heading
-  pub columns : 1 ≤ length (heading_by heading).columns
   pub is : r ≡ record { at = record { at = 0; line = 1 }; set = closed_set no_heading heading; places = replicate most_places 0; cursors = q }
 
 -- the profile x is compiled, and has no more variants than layouts

@@ -25,7 +25,7 @@ use Rattle.reading.specs.Keeping.{KeptPlaces}
 abbrev pub names_of : Groups → List Text
 names_of gs = map (λ (g : Group). g.name) gs
 
--- The values' places and the layout count stay; there is still room for the groups that may come, and there are no more than 64.
+-- The values' places and the layout count stay; where there was room for the groups that may come there still is, and where these were at most 64 they still are.
 pub record NamesKept (names names' : Names) : Type 0 where
   pub places : names'.bounds ≡ names.bounds
   pub layouts : names'.layouts ≡ names.layouts

@@ -21,7 +21,12 @@ this c =
     let z = ap enumerate_source g ∙ c.enumerate-j-items.ensures.source in
     let y = ap take_source z ∙ c.take.ensures.source in
     let s = c.split.ensures in
-    numbered_turn _ _ _ _ (YieldsList-turn (YieldsList-from_enumerate (YieldsList-from_take 32 (YieldsList-from_slice_split _ comma c.args.text.now (ap split_rest y ∙ s.rest) (ap split_done y ∙ s.done) (ap split_callee y ∙ s.closure) (λ x b q k. search (rules, tests))) (ap take_count z ∙ c.take.ensures.count)) (ap enumerate_count g ∙ c.enumerate-j-items.ensures.count)) c.loop-j.yielded _ c.loop-j.yielded_by _ _ _ c.in-Some.is c.next.ensures.steps)
+    let rest = ap split_rest y ∙ s.rest in
+    let done = ap split_done y ∙ s.done in
+    let commas = ap split_callee y ∙ s.closure in
+    let taken = ap take_count z ∙ c.take.ensures.count in
+    let counted = ap enumerate_count g ∙ c.enumerate-j-items.ensures.count in
+    numbered_turn _ _ _ _ (YieldsList-turn (YieldsList-from_enumerate (YieldsList-from_take 32 (YieldsList-from_slice_split _ comma c.args.text.now rest done commas (λ x b q k. search (rules, tests))) taken) counted) c.loop-j.yielded _ c.loop-j.yielded_by _ _ _ c.in-Some.is c.next.ensures.steps)
 
 pub overflow_add-end : goal.overflow_add-end
 overflow_add-end c = let t = this (goal.at.overflow_add-end c).In-Some in let l = placing_low _ _ _ _ _ _ _ c.loop-j.invariant.placing t.2.few in omega (arith, ap length t.2.field)
@@ -47,5 +52,10 @@ returns c =
     let z = ap enumerate_source g ∙ c.enumerate-j-items.ensures.source in
     let y = ap take_source z ∙ c.take.ensures.source in
     let s = c.split.ensures in
-    let t = YieldsList-end (YieldsList-from_enumerate (YieldsList-from_take 32 (YieldsList-from_slice_split _ comma c.args.text.now (ap split_rest y ∙ s.rest) (ap split_done y ∙ s.done) (ap split_callee y ∙ s.closure) (λ x b q k. search (rules, tests))) (ap take_count z ∙ c.take.ensures.count)) (ap enumerate_count g ∙ c.enumerate-j-items.ensures.count)) c.loop-j.yielded _ c.loop-j.yielded_by _ _ c.in-None.is c.next.ensures.steps in
+    let rest = ap split_rest y ∙ s.rest in
+    let done = ap split_done y ∙ s.done in
+    let commas = ap split_callee y ∙ s.closure in
+    let taken = ap take_count z ∙ c.take.ensures.count in
+    let counted = ap enumerate_count g ∙ c.enumerate-j-items.ensures.count in
+    let t = YieldsList-end (YieldsList-from_enumerate (YieldsList-from_take 32 (YieldsList-from_slice_split _ comma c.args.text.now rest done commas (λ x b q k. search (rules, tests))) taken) counted) c.loop-j.yielded _ c.loop-j.yielded_by _ _ c.in-None.is c.next.ensures.steps in
     placing_end _ _ _ _ _ _ _ c.loop-j.invariant.placing (numbered_end _ _ t.1) _ c.empty_places.ensures
