@@ -26,7 +26,6 @@ use Rattle.rules.specs.Sets.{IsSet}
 use Rattle.rules.specs.Checking.{line_of}
 use Rattle.rules.proofs.LineKinds.{set_good, set_bad}
 use Rattle.rules.proofs.HeldHeadings.{heading_held, sized_held}
-use Rattle.rules.proofs.Sides.{few_columns, good_parts}
 use Rattle.judging.specs.Sets.{SetOf, SetLineOf}
 use Rattle.judging.proofs.Indexed.{index_from_one}
 use Rattle.judging.proofs.RuleLines.{split_words, split_passed}
@@ -68,10 +67,6 @@ module _ (ws : Words) (shape : set_shape ws ≡ true) where
       let k = (and_both (all_of known_item (map left_item (before ws))) _ g).0 in
       some_column (map left_item (before ws)) (some_items (before ws) (not-true _ n)) k
 
-  own_few : good_items (map left_item (before ws)) (map component_of (after ws)) ≡ true → length own.columns ≤ 4
-  unfolding heading_of
-  own_few g = few_columns (concat_map columns_in (map left_item (before ws))) (good_parts (map left_item (before ws)) (map component_of (after ws)) g).left
-
   own_index : own.index ≡ first_index (concat_map indexes_in (map left_item (before ws)))
   unfolding heading_of
   own_index = refl
@@ -81,7 +76,7 @@ module _ (ws : Words) (shape : set_shape ws ≡ true) where
   set_judged (Some h) v =
       let k = sym v.good in
       let w = v.holds h refl in
-      record { is = set_good ws shape k ∙ rw (heading_held own h w) refl; sized = sized_held own h w (own_columns k) (own_few k); index = rw (w.index, own_index) (index_from_one (before ws)) }
+      record { is = set_good ws shape k ∙ rw (heading_held own h w) refl; sized = sized_held own h w (own_columns k); index = rw (w.index, own_index) (index_from_one (before ws)) }
 
 -- the first word of a part of the file
 pub tail_dollar : (s : Text) (from : ℕ) (x : Text) → x ≡ drop from s → has_dollar (get_or (left s from) 0 []) ≡ false → has_dollar (get_or (words_of x) 0 []) ≡ false

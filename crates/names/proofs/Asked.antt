@@ -28,7 +28,7 @@ use Rattle.names.specs.declared.Names.{Names}
 use Rattle.names.specs.Rows.{Question, asks, says}
 use Rattle.names.specs.Compiled.{Filled, Renewed, NewRow}
 use Rattle.names.specs.Marked.{or_also, listable, value_asks, name_count, Marked}
-use Rattle.names.specs.Placing.{four_texts, TextsCopied, Lies, field_start, ValuesPlaced, SomeSet}
+use Rattle.names.specs.Placing.{four_texts, TextsCopied, Lies, field_start, AllValuesPlaced, SomeSet}
 use Rattle.names.specs.Asked.{value_number, ValueRow, values_ask, options_ask, star_at, profile_asks, Begun, TableCompiled}
 use Rattle.names.specs.Ready.{Ready}
 use Rattle.names.proofs.Searching.{numbered_none}
@@ -436,7 +436,7 @@ begun_marked q f t t' most v u = record { held = u.held q v.held; star = u.numbe
 begun_same : (q f : Question) (t : Table) → ((k : ℕ) (c : Column) (w : Text) → 1 ≤ k → k ≤ 32 → empty w ≡ false → q k c w ≡ f k c w) → Begun q t → Begun f t
 begun_same q f t e v = record { held = filled_same q f 32 t e v.held; star = v.star; plain = v.plain }
 
-pub table_compiled : (x : Texts) (b : List Span) (t₀ t t' t'' : Table) (p : Span) (l v : ℕ) → profile_refusals x ≡ [] → ValuesPlaced x b → TextsCopied x t₀ p → SomeSet b 0 l → SomeSet b 32 v →
+pub table_compiled : (x : Texts) (b : List Span) (t₀ t t' t'' : Table) (p : Span) (l v : ℕ) → profile_refusals x ≡ [] → AllValuesPlaced x b → TextsCopied x t₀ p → SomeSet b 0 l → SomeSet b 32 v →
     NewRow t₀ t (text_of t₀.list) (bytes_at t₀.list p) (record { layouts = l; variants = v }) → Marked t t' most_values (values_ask (text_of t.list) b most_values) →
     Marked t' t'' (length (options_of x.options)) (options_ask (options_of x.options)) → TableCompiled x b t''
 unfolding profile_asks
@@ -474,7 +474,7 @@ table_compiled x b t₀ t t' t'' p l v h placed copied sl sv u m o =
 
 -- the names of the profile
 
-pub ready_profile : (x : Texts) (names : Names) → profile_refusals x ≡ [] → ValuesPlaced x names.bounds → TableCompiled x names.bounds names.table → names.groups ≡ 0 →
+pub ready_profile : (x : Texts) (names : Names) → profile_refusals x ≡ [] → AllValuesPlaced x names.bounds → TableCompiled x names.bounds names.table → names.groups ≡ 0 →
     names.layouts ≡ layout_count (profile_of x) → Ready x [] names
 ready_profile x names h placed u z n =
     record {

@@ -1,7 +1,7 @@
 -- A group is defined: refused, or one group more.
-use Rattle.std.proofs.Common.{◌≡◌, ◌+◌, ◌-◌, ◌≤◌, ◌<◌, Bool, true, false, ◌||◌, leb, [], ◌∷◌, ◌++◌, length, Ok, Err, refl, sym, ap, ◌∙◌, arith}
+use Rattle.std.proofs.Common.{◌≡◌, ◌+◌, ◌-◌, ◌≤◌, ◌<◌, Bool, true, false, ◌||◌, leb, [], ◌∷◌, ◌++◌, length, length-append, Ok, Err, refl, sym, ap, ◌∙◌, arith}
 use borrow.Author.Tests.{eqb-true, lt-leb}
-use Rattle.text.specs.Limits.{most_groups}
+use Rattle.text.specs.Limits.{most_groups, longest_word}
 use Rattle.text.specs.Bytes.{Text, Words, same, first, rest, all_of, any_of}
 use Rattle.text.specs.declared.faults.Fault.TheVariants.{BadGroup}
 use Rattle.text.proofs.Lists.{no, any_cons}
@@ -14,8 +14,8 @@ use Rattle.names.specs.declared.Row.{Row}
 use Rattle.names.specs.declared.Names.{Names}
 use Rattle.names.specs.Rows.{asks}
 use Rattle.names.specs.Compiled.{Joined, Renewed, NewRow}
-use Rattle.names.specs.Ready.{TableReady, Ready}
-use Rattle.names.specs.Defining.{RoomForName, Defines}
+use Rattle.names.specs.Ready.{NoProfile, TableReady, Ready}
+use Rattle.names.specs.Defining.{RoomForName, Roomy, Defines}
 use Rattle.names.proofs.GroupMatches.{group_others, group_this}
 use Rattle.names.proofs.Renewing.{compiled_new}
 use Rattle.names.proofs.Placing.{values_longer}
@@ -37,6 +37,19 @@ defined_cons g gs y = refl
 pub fits_has_room : (w : Text) (names : Names) → length w ≤ text_size - names.table.list.used → RoomForName w names
 fits_has_room w names h few fresh = omega (arith, names.table.list.room)
 
+-- where there is room for all groups that may come, there is for each
+pub room_for_name : (w : Text) (names : Names) → Roomy names → length w ≤ longest_word → RoomForName w names
+room_for_name w names v h few fresh = omega (arith, v.room, h)
+
+-- before a profile is compiled there is room
+pub new_roomy : (names : Names) → NoProfile names → Roomy names
+new_roomy names v =
+    record {
+      room = omega (arith, v.table.list.used, v.groups);
+      limit = omega (arith, v.groups);
+      layouts = omega (arith, v.layouts);
+    }
+
 module _ (w : Text) (h : has_dollar w ≡ true) (row : Row) (names : Names) where
   -- whether the name is listed already
   module _ (r : Bool) (e : r ≡ any_of (same w) (names_of names.table.list)) (x : Texts) (gs : Groups) (v : TableReady x gs names.table) where
@@ -54,7 +67,7 @@ module _ (w : Text) (h : has_dollar w ≡ true) (row : Row) (names : Names) wher
 
   -- nothing is changed
   kept_all : ((x : Texts) (gs : Groups) → TableReady x gs names.table → names.groups ≡ length gs → true ≡ defined gs (rest w) || leb most_groups (length gs)) → Defines w row names names (Err BadGroup)
-  kept_all f = record { kept = λ z. (refl, refl); few = λ z. absurd (no z); number = λ z. absurd (no z); count = λ z. absurd (no z); text = λ z. absurd (no z); values = (refl, refl); refusal = f; table = λ z. absurd (no z); more = λ z. absurd (no z) }
+  kept_all f = record { kept = λ z. (refl, refl); few = λ z. absurd (no z); number = λ z. absurd (no z); count = λ z. absurd (no z); text = λ z. absurd (no z); values = (refl, refl); roomy = λ z v. v; refusal = f; table = λ z. absurd (no z); more = λ z. absurd (no z) }
 
   module _ (r : Bool) (e : r ≡ any_of (same w) (names_of names.table.list)) where
     pub defines_twice : r ≡ true → Defines w row names names (Err BadGroup)
@@ -101,6 +114,16 @@ module _ (w : Text) (h : has_dollar w ≡ true) (row : Row) (names : Names) wher
             layouts = kept.1 ∙ v.layouts;
           }
 
+      roomy_still : length w ≤ longest_word → Roomy names → Roomy names'
+      roomy_still z v =
+          let t : length (text_of names'.table.list) ≡ length (text_of names.table.list) + length w =
+          ap length u.text ∙ length-append (text_of names.table.list) w in
+          record {
+            room = omega (arith, t, names.table.list.long, names'.table.list.long, v.room, z, few, grown);
+            limit = omega (arith, few, grown);
+            layouts = rw kept.1 v.layouts;
+          }
+
       pub defines_more : Defines w row names names' (Ok (tt {0}))
       defines_more =
           record {
@@ -110,6 +133,7 @@ module _ (w : Text) (h : has_dollar w ≡ true) (row : Row) (names : Names) wher
             count = λ z. u.count;
             text = λ z. u.text;
             values = kept;
+            roomy = λ z v. roomy_still z v;
             refusal = λ x gs v n. not_refused r e x gs v f few n;
             table = λ z x gs ms v a j. group_table x gs ms v a j;
             more = λ z x gs ms v a j. group_ready x gs ms v a j;

@@ -18,7 +18,7 @@ use Rattle.listing.specs.declared.names.Listing.{Listing}
 use Rattle.listing.specs.Lists.{text_of, Empty, Appended}
 use Rattle.listing.proofs.Finding.{part_longer}
 use Rattle.names.specs.declared.table.Table.{Table}
-use Rattle.names.specs.Placing.{four_texts, ShortTexts, TextsCopied, Lies, field_start, EmptyAt, FieldPlace, Emptied, FieldsPlaced, ValuesPlaced}
+use Rattle.names.specs.Placing.{four_texts, ShortTexts, TextsCopied, Lies, field_start, EmptyAt, FieldPlace, Emptied, FieldsPlaced, AllValuesPlaced, Unplaced, ValuesPlaced}
 use Rattle.names.proofs.Fields.{field_in, start_first, start_next}
 
 pub whole_part : (w : Text) → part w 0 (length w) ≡ w
@@ -157,10 +157,10 @@ module _ (o : Text) (base first : ℕ) (b₀ : List Span) where
 
 -- the model, the layouts, the variants
 
-pub values_placed : (x : Texts) (b b' b'' : List Span) → length b ≡ most_values → get_or b 0 no_span ≡ record { start = 0; end = length x.model } →
+pub all_placed : (x : Texts) (b b' b'' : List Span) → length b ≡ most_values → get_or b 0 no_span ≡ record { start = 0; end = length x.model } →
     FieldsPlaced x.layouts (length x.model) 1 b b' →
-    FieldsPlaced x.variants (length x.model + length x.layouts) 33 b' b'' → ValuesPlaced x b''
-values_placed x b b' b'' n m p q =
+    FieldsPlaced x.variants (length x.model + length x.layouts) 33 b' b'' → AllValuesPlaced x b''
+all_placed x b b' b'' n m p q =
     record {
       size = q.size ∙ (p.size ∙ n);
       model = q.before 0 (omega arith) ∙ (p.before 0 (omega arith) ∙ m);
@@ -255,12 +255,33 @@ module _ (x : Texts) (h : profile_refusals x ≡ []) where
   pub few_fields : (length (fields x.layouts) ≤ most_layouts) × (length (fields x.variants) ≤ most_layouts)
   few_fields = (few_layouts_lem, omega (arith, few_layouts_lem, few_variants_lem))
 
+  -- those that have no field have no place
+  pub values_placed : (b b' b'' : List Span) (n m : ℕ) → n ≡ length (fields x.layouts) → m ≡ length (fields x.variants) → AllValuesPlaced x b →
+      Unplaced (1 + n) 33 b b' → Unplaced (33 + m) most_values b' b'' → ValuesPlaced x b''
+  values_placed b b' b'' n m e f p u v =
+      record {
+        size = v.size ∙ (u.size ∙ p.size);
+        model = v.before 0 (omega arith) ∙ (u.before 0 (omega arith) ∙ p.model);
+        layout = λ j l.
+            rw (v.before (1 + j) (omega (arith, e, few_fields.0)), u.before (1 + j) (omega (arith, e)))
+            (p.layouts.here j (omega (arith, few_fields.0)) l);
+        variant = λ j l.
+            rw (v.before (33 + j) (omega (arith, f)), u.beyond (33 + j) (omega arith))
+            (p.variants.here j (omega (arith, few_fields.1)) l);
+        no_layout = λ j l k. v.before (1 + j) (omega arith) ∙ u.here (1 + j) (omega (arith, e)) (omega arith);
+        no_variant = λ j l. by j l (ltb (33 + j) most_values) refl;
+      }
+    where
+      by : (j : ℕ) → length (fields x.variants) ≤ j → (c : Bool) → ltb (33 + j) most_values ≡ c → get_or b'' (33 + j) no_span ≡ no_span
+      by j l true z = v.here (33 + j) (omega (arith, f)) (ltb-true (33 + j) most_values z)
+      by j l false z = get_or_past b'' (33 + j) no_span (omega (arith, ltb-false (33 + j) most_values z, v.size, u.size, p.size))
+
   short_model : length x.model ≤ longest_field
   unfolding any_of
   short_model = not_long x.model (neither (long_field x.model) _ (good_text x.model (x.model ∷ []) good_model).1).0
 
   -- the values of a profile that is not refused are in their places
-  module _ (b : List Span) (p : ValuesPlaced x b) where
+  module _ (b : List Span) (p : AllValuesPlaced x b) where
     abbrev s : Text
     s = four_texts x ++ (42 ∷ [])
 

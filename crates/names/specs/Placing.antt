@@ -69,11 +69,27 @@ pub record FieldsPlaced (o : Text) (base first : ℕ) (b b' : List Span) : Type 
   pub beyond : (i : ℕ) → first + 32 ≤ i → get_or b' i no_span ≡ get_or b i no_span
 
 -- the model, 32 layouts and 32 variants have theirs
-pub record ValuesPlaced (x : Texts) (b : List Span) : Type 0 where
+pub record AllValuesPlaced (x : Texts) (b : List Span) : Type 0 where
   pub size : length b ≡ most_values
   pub model : get_or b 0 no_span ≡ record { start = 0; end = length x.model }
   pub layouts : FieldsAt x.layouts (length x.model) 1 b
   pub variants : FieldsAt x.variants (length x.model + length x.layouts) 33 b
+
+-- the values from the number `first` up to `end` have no place; the other places are as they were
+pub record Unplaced (first end : ℕ) (b b' : List Span) : Type 0 where
+  pub size : length b' ≡ length b
+  pub here : (j : ℕ) → first ≤ j → j < end → get_or b' j no_span ≡ no_span
+  pub before : (i : ℕ) → i < first → get_or b' i no_span ≡ get_or b i no_span
+  pub beyond : (i : ℕ) → end ≤ i → get_or b' i no_span ≡ get_or b i no_span
+
+-- the model, the layouts and the variants have theirs, and a value that has no field has none
+pub record ValuesPlaced (x : Texts) (b : List Span) : Type 0 where
+  pub size : length b ≡ most_values
+  pub model : get_or b 0 no_span ≡ record { start = 0; end = length x.model }
+  pub layout : (j : ℕ) → j < length (fields x.layouts) → FieldPlace (fields x.layouts) (length x.model) j (get_or b (1 + j) no_span)
+  pub variant : (j : ℕ) → j < length (fields x.variants) → FieldPlace (fields x.variants) (length x.model + length x.layouts) j (get_or b (33 + j) no_span)
+  pub no_layout : (j : ℕ) → length (fields x.layouts) ≤ j → j < 32 → get_or b (1 + j) no_span ≡ no_span
+  pub no_variant : (j : ℕ) → length (fields x.variants) ≤ j → get_or b (33 + j) no_span ≡ no_span
 
 -- 0 is in the set, and of the numbers 1 to 32 those whose value is not empty
 pub record SomeSet (b : List Span) (before r : ℕ) : Type 0 where

@@ -8,10 +8,10 @@ ghost use Rattle.listing.specs.Names.{most_names};
 ghost use Rattle.listing.specs.Lists.{text_of, names_of, bytes_at};
 ghost use Rattle.names.specs.Rows.{says};
 ghost use Rattle.names.specs.Marked.{value_asks, Marked};
-ghost use Rattle.names.specs.Placing.{ShortTexts, ValuesPlaced, Lies, TextsCopied};
+ghost use Rattle.names.specs.Placing.{ShortTexts, AllValuesPlaced, Lies, TextsCopied};
 ghost use Rattle.names.specs.Asked.{ValueRow, values_ask, options_ask, Begun, TableCompiled};
 
-use super::places::{place_values, some_set};
+use super::places::{place_all_values, some_set};
 use super::sieve::FLAGS;
 use super::table::Table;
 use super::{Names, Row};
@@ -82,7 +82,7 @@ impl Table {
 
     // Lists `*` and all values of a profile that is not refused.
     fn compile(&mut self, texts: &Texts, bounds: &[Span; 65])
-        requires { (profile_refusals texts.now ≡ []) × ValuesPlaced texts.now bounds.now }
+        requires { (profile_refusals texts.now ≡ []) × AllValuesPlaced texts.now bounds.now }
         ensures { TableCompiled texts.now bounds.now self.new }
     {
         let star = self.copy_texts(texts);
@@ -99,14 +99,14 @@ impl Table {
 
 impl Names {
     ghost use Rattle.names.specs.Ready.{Ready};
-    ghost use Rattle.names.specs.Defining.{RoomForGroups};
+    ghost use Rattle.names.specs.Defining.{Roomy};
 
-    // A profile that is not refused, with no group yet, in place of what was held, and room for the names of 64 groups.
+    // A profile that is not refused, with no group yet, in place of what was held, and with room for the names of 64 groups.
     pub fn compile(&mut self, texts: &Texts)
         requires { profile_refusals texts.now ≡ [] }
-        ensures { Ready texts.now [] self.new × RoomForGroups self.new }
+        ensures { Ready texts.now [] self.new × Roomy self.new }
     {
-        let bounds = place_values(texts);
+        let bounds = place_all_values(texts);
         self.table.compile(texts, &bounds);
         self.bounds = bounds;
         self.layouts = texts.layout_count();

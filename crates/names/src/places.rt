@@ -1,10 +1,12 @@
 // The places of a profile's values in the names' text, and which of them are not empty.
-ghost use Rattle.std.specs.Prelude.{◌≡◌, ◌||◌, ◌&&◌, ℕ, ◌+◌, ◌*◌, ◌≤◌, ◌<◌, eqb, length};
+ghost use Rattle.std.specs.Prelude.{◌≡◌, ◌||◌, ◌&&◌, [], ℕ, ◌+◌, ◌*◌, ◌≤◌, ◌<◌, eqb, length};
 ghost use Rattle.text.specs.Limits.{longest_text};
+ghost use Rattle.profile.specs.Refusals.{profile_refusals};
 ghost use Rattle.bitsets.specs.Sets.{is_in};
-ghost use Rattle.names.specs.Placing.{Emptied, FieldsPlaced, ValuesPlaced, SomeSet};
+ghost use Rattle.names.specs.Placing.{Emptied, FieldsPlaced, AllValuesPlaced, Unplaced, ValuesPlaced, SomeSet};
 
 use bitsets::with;
+use profile::fields::field_count;
 use profile::texts::Texts;
 use text::Span;
 
@@ -33,10 +35,10 @@ fn place_fields(text: &[u8], base: usize, first: usize, bounds: &mut [Span; 65])
     }
 }
 
-// The places of the model, 32 layouts and 32 variants, in the four texts one after the other.
-pub fn place_values(texts: &Texts) -> [Span; 65]
+// The places of the model, 32 layouts and 32 variants, in the four texts one after the other: a value that has no field is empty, where its text ends.
+pub fn place_all_values(texts: &Texts) -> [Span; 65]
     requires { (length texts.now.model ≤ longest_text) × (length texts.now.layouts ≤ longest_text) × (length texts.now.variants ≤ longest_text) }
-    ensures { ValuesPlaced texts.now result }
+    ensures { AllValuesPlaced texts.now result }
 {
     let mut bounds = [Span { start: 0, end: 0 }; 65];
     let layouts = texts.model.len();
@@ -47,6 +49,27 @@ pub fn place_values(texts: &Texts) -> [Span; 65]
     };
     place_fields(texts.layouts, layouts, 1, &mut bounds);
     place_fields(texts.variants, variants, 33, &mut bounds);
+    bounds
+}
+
+// The values from the number `first` up to `end` have no place.
+fn unplace(first: usize, end: usize, bounds: &mut [Span; 65])
+    requires { (first ≤ end) × (end ≤ 65) }
+    ensures { Unplaced first end bounds.old bounds.new }
+{
+    for j in first..end {
+        bounds[j] = Span { start: 0, end: 0 };
+    }
+}
+
+// The same of a profile that is not refused, but that a value that has no field has no place.
+pub fn place_values(texts: &Texts) -> [Span; 65]
+    requires { profile_refusals texts.now ≡ [] }
+    ensures { ValuesPlaced texts.now result }
+{
+    let mut bounds = place_all_values(texts);
+    unplace(1 + field_count(texts.layouts), 33, &mut bounds);
+    unplace(33 + field_count(texts.variants), 65, &mut bounds);
     bounds
 }
 

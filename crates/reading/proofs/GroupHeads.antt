@@ -92,6 +92,7 @@ module _ (s : Text) (names : Names) (r : Reading) (x : FirstWord) (h : AtGroup s
       record {
         kept = rw stay (names_same names);
         refused = λ z. (stay, refl);
+        left = λ z. z;
         steps = λ y w u.
             record { kept = rw stay (names_same names); scratch = refl; buffer = refl; sound = λ c. cc; further = λ c. cc; means = λ w₀ q₀ p a. rw a.faults (e p a.groups a.ready) };
       }
@@ -150,6 +151,7 @@ module _ (s : Text) (names : Names) (r : Reading) (x : FirstWord) (h : AtGroup s
             record {
               kept = names_kept;
               refused = λ c. absurd (no c);
+              left = λ c. c;
               steps = λ y w v₀.
                   record {
                     kept = names_kept;

@@ -47,6 +47,7 @@ module _ (s : Text) (names : Names) (r : Reading) (words : Spot) (h : AtHeading 
       record {
         kept = names_same names;
         refused = λ z. (refl, refl);
+        left = λ z. z;
         steps = λ x w u.
             record {
               kept = names_same names;
@@ -87,6 +88,7 @@ module _ (s : Text) (names : Names) (r : Reading) (words : Spot) (h : AtHeading 
           record {
             kept = names_same names;
             refused = λ z. absurd (no z);
+            left = λ z. rw q.set set_is.sized.left;
             steps = λ x w u.
                 record {
                   kept = names_same names;

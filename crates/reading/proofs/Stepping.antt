@@ -17,6 +17,7 @@ use Rattle.text.proofs.Readers.{line_at, line_first}
 use Rattle.profile.specs.Profile.{Texts, profile_of}
 use Rattle.listing.specs.Lists.{text_of}
 use Rattle.names.specs.declared.Names.{Names}
+use Rattle.names.specs.Defining.{Roomy}
 use Rattle.rules.specs.declared.Present.{Present}
 use Rattle.rules.specs.declared.SetHeading.{SetHeading}
 use Rattle.rules.specs.Sections.{Rule}
@@ -67,6 +68,9 @@ names_same names = record { places = refl; layouts = refl; room = λ v. v; limit
 
 pub names_then : (a b c : Names) → NamesKept a b → NamesKept b c → NamesKept a c
 names_then a b c v w = record { places = w.places ∙ v.places; layouts = w.layouts ∙ v.layouts; room = λ z. w.room (v.room z); limit = λ z. w.limit (v.limit z) }
+
+pub kept_roomy : (names names' : Names) → NamesKept names names' → Roomy names → Roomy names'
+kept_roomy names names' v w = record { room = v.room w.room; limit = v.limit w.limit; layouts = rw v.layouts w.layouts }
 
 pub closed_open : (n : ℕ) (o : OpenSet) → SetOpen n o → SetOpen n (closed_set o.present o.set)
 closed_open n o v =

@@ -35,4 +35,5 @@ going (Err e) = Err e
 pub record HeadRead (s : Text) (names names' : Names) (r r' : Reading) (o : Result (Unit {0}) Refusal) : Type 0 where
   pub kept : NamesKept names names'
   pub refused : IsErr o → (names' ≡ names) × (r' ≡ r)
+  pub left : r.set.set.columns.count ≤ 4 → r'.set.set.columns.count ≤ 4
   pub steps : (x w : Text) → Sound s names x w r → Stepped s names names' x x w w r r' (going o)

@@ -15,8 +15,8 @@ pub heading_held : (h : Heading) (r : SetHeading) → Holds h r → heading_by r
 unfolding heading_by
 heading_held h r v = rw (← v.columns, v.index, ← v.components) refl
 
-pub sized_held : (h : Heading) (r : SetHeading) → Holds h r → 1 ≤ length h.columns → length h.columns ≤ 4 → SetSized r
-sized_held h r v n m = record { some = omega (arith, n, v.left); left = omega (arith, m, v.left) }
+pub sized_held : (h : Heading) (r : SetHeading) → Holds h r → 1 ≤ length h.columns → SetSized r
+sized_held h r v n = record { some = omega (arith, n, v.left); left = v.few_left }
 
 module _ (r : SetHeading) where
   pub columns_length : length (heading_by r).columns ≡ r.columns.count
