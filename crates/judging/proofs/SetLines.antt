@@ -34,7 +34,7 @@ use Rattle.judging.proofs.RuleLines.{split_words, split_passed}
 pub set_as : (e e' : Entry) (r : Result SetHeading Fault) → e ≡ e' → SetOf e' r → SetOf e r
 set_as e e' r h v = rw h v
 
--- a heading has a column, and no more than there are
+-- a heading has a column
 
 known_column : (i : Option Item) → known_item i ≡ true → length (columns_in i) ≡ 1
 unfolding known_item columns_in

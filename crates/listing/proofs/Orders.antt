@@ -45,7 +45,7 @@ less_is Greater e = absurd (no e)
 
 -- what the search is told, by the key that is kept, and where that is the same by the bytes
 module _ (t : Text) (spans : List Span) (kept : List ℕ) (w : Text) (g : ℕ) where
-  told_by_key : (get_or kept g 0 ≡ key_of w → ⊥) → nat_cmp (get_or kept g 0) (key_of w) ≡ told_order t spans kept w g
+  pub told_by_key : (get_or kept g 0 ≡ key_of w → ⊥) → nat_cmp (get_or kept g 0) (key_of w) ≡ told_order t spans kept w g
   unfolding told_order
   told_by_key d = sym (then_unequal _ _ (λ e. d (keys_alike _ _ e)))
 

@@ -28,7 +28,7 @@ use Rattle.names.specs.declared.Names.{Names}
 use Rattle.names.specs.Rows.{Question, asks, says}
 use Rattle.names.specs.Compiled.{Filled, Renewed, NewRow}
 use Rattle.names.specs.Marked.{or_also, listable, value_asks, name_count, Marked}
-use Rattle.names.specs.Placing.{four_texts, TextsCopied, Lies, field_start, AllValuesPlaced, SomeSet}
+use Rattle.names.specs.Placing.{four_texts, TextsCopied, Lies, field_start, SomeSet}
 use Rattle.names.specs.Asked.{value_number, ValueRow, values_ask, options_ask, star_at, profile_asks, Begun, TableCompiled}
 use Rattle.names.specs.Ready.{Ready}
 use Rattle.names.proofs.Searching.{numbered_none}
@@ -36,7 +36,7 @@ use Rattle.names.proofs.Joining.{says_none}
 use Rattle.names.proofs.Renewing.{number_new, filled_new}
 use Rattle.names.proofs.Marking.{filled_same, marked_nothing, marked_same, marked_then}
 use Rattle.names.proofs.Fields.{Turn, field_in, start_first, start_next}
-use Rattle.names.proofs.Placing.{lies_part, values_of}
+use Rattle.names.proofs.Placing.{lies_part}
 use Rattle.names.proofs.Tests.{or_none, or_assoc, and_none, and_all}
 
 any_same : (f g : Text → Bool) → ((x : Text) → f x ≡ g x) → (l : List Text) → any_of f l ≡ any_of g l
@@ -436,7 +436,7 @@ begun_marked q f t t' most v u = record { held = u.held q v.held; star = u.numbe
 begun_same : (q f : Question) (t : Table) → ((k : ℕ) (c : Column) (w : Text) → 1 ≤ k → k ≤ 32 → empty w ≡ false → q k c w ≡ f k c w) → Begun q t → Begun f t
 begun_same q f t e v = record { held = filled_same q f 32 t e v.held; star = v.star; plain = v.plain }
 
-pub table_compiled : (x : Texts) (b : List Span) (t₀ t t' t'' : Table) (p : Span) (l v : ℕ) → profile_refusals x ≡ [] → AllValuesPlaced x b → TextsCopied x t₀ p → SomeSet b 0 l → SomeSet b 32 v →
+pub table_compiled : (x : Texts) (b : List Span) (t₀ t t' t'' : Table) (p : Span) (l v : ℕ) → profile_refusals x ≡ [] → ValuesOf x (four_texts x ++ (42 ∷ [])) b → TextsCopied x t₀ p → SomeSet b 0 l → SomeSet b 32 v →
     NewRow t₀ t (text_of t₀.list) (bytes_at t₀.list p) (record { layouts = l; variants = v }) → Marked t t' most_values (values_ask (text_of t.list) b most_values) →
     Marked t' t'' (length (options_of x.options)) (options_ask (options_of x.options)) → TableCompiled x b t''
 unfolding profile_asks
@@ -468,13 +468,13 @@ table_compiled x b t₀ t t' t'' p l v h placed copied sl sv u m o =
         begun_marked (or_also (value_asks (42 ∷ []) (star_at (four_texts x ++ (42 ∷ [])) b)) (values_ask (four_texts x ++ (42 ∷ [])) b most_values)) (options_ask (options_of x.options)) t' t'' (length (options_of x.options))
         (begun_marked (value_asks (42 ∷ []) (star_at (four_texts x ++ (42 ∷ [])) b)) (values_ask (four_texts x ++ (42 ∷ [])) b most_values) t t' most_values
         (begun_same (value_asks (42 ∷ []) (says (record { layouts = l; variants = v }))) (value_asks (42 ∷ []) (star_at (four_texts x ++ (42 ∷ [])) b)) t
-        (λ k c w a i e. asks_same (42 ∷ []) (says (record { layouts = l; variants = v })) (star_at (four_texts x ++ (42 ∷ [])) b) k c w (star_row (four_texts x ++ (42 ∷ [])) b l v (values_of x h b placed).placed sl sv k c a i)) begun)
+        (λ k c w a i e. asks_same (42 ∷ []) (says (record { layouts = l; variants = v })) (star_at (four_texts x ++ (42 ∷ [])) b) k c w (star_row (four_texts x ++ (42 ∷ [])) b l v placed.placed sl sv k c a i)) begun)
         (rw text at m))
         o
 
 -- the names of the profile
 
-pub ready_profile : (x : Texts) (names : Names) → profile_refusals x ≡ [] → AllValuesPlaced x names.bounds → TableCompiled x names.bounds names.table → names.groups ≡ 0 →
+pub ready_profile : (x : Texts) (names : Names) → profile_refusals x ≡ [] → ValuesOf x (four_texts x ++ (42 ∷ [])) names.bounds → TableCompiled x names.bounds names.table → names.groups ≡ 0 →
     names.layouts ≡ layout_count (profile_of x) → Ready x [] names
 ready_profile x names h placed u z n =
     record {
@@ -496,4 +496,4 @@ ready_profile x names h placed u z n =
     }
   where
     values : ValuesOf x (text_of names.table.list) names.bounds
-    values = rw u.text (values_of x h names.bounds placed)
+    values = rw u.text placed

@@ -157,10 +157,10 @@ module _ (o : Text) (base first : ℕ) (b₀ : List Span) where
 
 -- the model, the layouts, the variants
 
-pub all_placed : (x : Texts) (b b' b'' : List Span) → length b ≡ most_values → get_or b 0 no_span ≡ record { start = 0; end = length x.model } →
+pub all_values_placed : (x : Texts) (b b' b'' : List Span) → length b ≡ most_values → get_or b 0 no_span ≡ record { start = 0; end = length x.model } →
     FieldsPlaced x.layouts (length x.model) 1 b b' →
     FieldsPlaced x.variants (length x.model + length x.layouts) 33 b' b'' → AllValuesPlaced x b''
-all_placed x b b' b'' n m p q =
+all_values_placed x b b' b'' n m p q =
     record {
       size = q.size ∙ (p.size ∙ n);
       model = q.before 0 (omega arith) ∙ (p.before 0 (omega arith) ∙ m);
@@ -177,6 +177,10 @@ none_behind zero zero = refl
 none_behind zero (suc j) = refl
 none_behind (suc n) zero = refl
 none_behind (suc n) (suc j) = none_behind n j
+
+-- the places before the fields are put in
+pub first_places : (p : Span) → (j : ℕ) → 1 ≤ j → get_or (set (replicate most_values no_span) 0 p) j no_span ≡ no_span
+first_places p j h = get_or-set_other (replicate most_values no_span) 0 j p no_span (λ (z : j ≡ 0). omega arith) ∙ none_behind most_values j
 
 -- no value has a place yet
 pub none_placed : (s : Text) → Placed s (replicate most_values no_span)
@@ -255,7 +259,7 @@ module _ (x : Texts) (h : profile_refusals x ≡ []) where
   pub few_fields : (length (fields x.layouts) ≤ most_layouts) × (length (fields x.variants) ≤ most_layouts)
   few_fields = (few_layouts_lem, omega (arith, few_layouts_lem, few_variants_lem))
 
-  -- those that have no field have no place
+  -- where those that have no field are empty at the start
   pub values_placed : (b b' b'' : List Span) (n m : ℕ) → n ≡ length (fields x.layouts) → m ≡ length (fields x.variants) → AllValuesPlaced x b →
       Unplaced (1 + n) 33 b b' → Unplaced (33 + m) most_values b' b'' → ValuesPlaced x b''
   values_placed b b' b'' n m e f p u v =
@@ -280,14 +284,25 @@ module _ (x : Texts) (h : profile_refusals x ≡ []) where
   unfolding any_of
   short_model = not_long x.model (neither (long_field x.model) _ (good_text x.model (x.model ∷ []) good_model).1).0
 
-  -- the values of a profile that is not refused are in their places
-  module _ (b : List Span) (p : AllValuesPlaced x b) where
-    abbrev s : Text
-    s = four_texts x ++ (42 ∷ [])
+  abbrev s : Text
+  s = four_texts x ++ (42 ∷ [])
 
+  record EmptyIn (p : Span) : Type 0 where
+    at : ℕ
+    inside : at ≤ length s
+    empty : EmptyAt at p
+
+  -- values from the number `first` on: those of fields have their places, the others are empty, somewhere in the text
+  record FieldsIn (o : Text) (base first : ℕ) (b : List Span) : Type 0 where
+    here : (j : ℕ) → j < 32 → j < length (fields o) → FieldPlace (fields o) base j (get_or b (first + j) no_span)
+    none : (j : ℕ) → j < 32 → length (fields o) ≤ j → EmptyIn (get_or b (first + j) no_span)
+
+  -- the values of a profile that is not refused are in their places
+  module _ (b : List Span) (size : length b ≡ most_values) (model : get_or b 0 no_span ≡ record { start = 0; end = length x.model })
+      (layouts : FieldsIn x.layouts (length x.model) 1 b) (variants : FieldsIn x.variants (length x.model + length x.layouts) 33 b) where
     -- a place of a field, or one that is empty
     field_at : (o : Text) (base j n : ℕ) → Lies s base o → any_of long_field (fields o) ≡ false →
-        (j < length (fields o) → FieldPlace (fields o) base j (get_or b n no_span)) → (length (fields o) ≤ j → EmptyAt (base + length o) (get_or b n no_span)) →
+        (j < length (fields o) → FieldPlace (fields o) base j (get_or b n no_span)) → (length (fields o) ≤ j → EmptyIn (get_or b n no_span)) →
         InText s (get_or b n no_span) × (value_at s b n ≡ get_or (fields o) j [])
     unfolding value_at
     field_at o base j n v k f g = by (ltb j (length (fields o))) refl
@@ -304,19 +319,20 @@ module _ (x : Texts) (h : profile_refusals x ≡ []) where
             )
         by false z =
             let l = ltb-false j (length (fields o)) z in
-            rw (g l) (
-              record { low = omega arith; high = v.high; short = omega arith },
-              part_empty s (base + length o) ∙ sym (get_or_past (fields o) j [] l),
+            let e = g l in
+            rw e.empty (
+              record { low = omega arith; high = e.inside; short = omega arith },
+              part_empty s e.at ∙ sym (get_or_past (fields o) j [] l),
             )
 
     layout_at : (j : ℕ) → j < 32 → InText s (get_or b (1 + j) no_span) × (value_at s b (1 + j) ≡ get_or (fields x.layouts) j [])
     layout_at j l =
-        field_at x.layouts (length x.model) j (1 + j) (lies_layouts x) (good_text x.layouts (fields x.layouts) good_layouts).1 (p.layouts.here j l) (p.layouts.none j l)
+        field_at x.layouts (length x.model) j (1 + j) (lies_layouts x) (good_text x.layouts (fields x.layouts) good_layouts).1 (layouts.here j l) (layouts.none j l)
 
     variant_at : (j : ℕ) → j < 32 → InText s (get_or b (33 + j) no_span) × (value_at s b (33 + j) ≡ get_or (fields x.variants) j [])
     variant_at j l =
-        field_at x.variants (length x.model + length x.layouts) j (33 + j) (lies_variants x) (good_text x.variants (fields x.variants) good_variants).1 (p.variants.here j l)
-        (p.variants.none j l)
+        field_at x.variants (length x.model + length x.layouts) j (33 + j) (lies_variants x) (good_text x.variants (fields x.variants) good_variants).1 (variants.here j l)
+        (variants.none j l)
 
     model_at : InText s (get_or b 0 no_span) × (value_at s b 0 ≡ x.model)
     unfolding value_at
@@ -324,7 +340,7 @@ module _ (x : Texts) (h : profile_refusals x ≡ []) where
         let v = lies_model x in
         let z : part s (0 + 0) (0 + length x.model) ≡ part x.model 0 (length x.model) = lies_part s 0 x.model 0 (length x.model) v (omega arith) (omega arith) in
         let e : 0 + length x.model ≡ length x.model = omega arith in
-        rw p.model
+        rw model
         (record { low = omega arith; high = omega (arith, v.high); short = omega (arith, short_model) }, (rw e at z) ∙ whole_part x.model)
 
     place : (j : ℕ) → j < most_values → InText s (get_or b j no_span)
@@ -335,14 +351,26 @@ module _ (x : Texts) (h : profile_refusals x ≡ []) where
         by true z = let y : suc j ≡ 1 + j = omega arith in rw y (layout_at j (ltb-true j 32 z)).0
         by false z = let k = ltb-false j 32 z in let y : suc j ≡ 33 + (j - 32) = omega arith in rw y (variant_at (j - 32) (omega arith)).0
 
-    pub values_of : ValuesOf x (four_texts x ++ (42 ∷ [])) b
-    values_of =
+    values_in : ValuesOf x (four_texts x ++ (42 ∷ [])) b
+    values_in =
         record {
-          placed = record { size = p.size; place = place };
+          placed = record { size = size; place = place };
           model = model_at.1;
           layout = λ k l m. (let y : 0 + k ≡ 1 + (k - 1) = omega arith in ap (value_at s b) y ∙ (layout_at (k - 1) (omega arith)).1);
           variant = λ k l m. (let y : 32 + k ≡ 33 + (k - 1) = omega arith in ap (value_at s b) y ∙ (variant_at (k - 1) (omega arith)).1);
         }
+
+  pub all_values_of : (b : List Span) → AllValuesPlaced x b → ValuesOf x (four_texts x ++ (42 ∷ [])) b
+  all_values_of b p =
+      values_in b p.size p.model
+      (record { here = p.layouts.here; none = λ j l k. record { at = length x.model + length x.layouts; inside = (lies_layouts x).high; empty = p.layouts.none j l k } })
+      (record { here = p.variants.here; none = λ j l k. record { at = length x.model + length x.layouts + length x.variants; inside = (lies_variants x).high; empty = p.variants.none j l k } })
+
+  pub values_of : (b : List Span) → ValuesPlaced x b → ValuesOf x (four_texts x ++ (42 ∷ [])) b
+  values_of b p =
+      values_in b p.size p.model
+      (record { here = λ j l. p.layout j; none = λ j l k. record { at = 0; inside = omega arith; empty = p.no_layout j k l } })
+      (record { here = λ j l. p.variant j; none = λ j l k. record { at = 0; inside = omega arith; empty = p.no_variant j k } })
 
 -- in a text that is made longer
 value_longer : (s w : Text) (b : List Span) (j : ℕ) → InText s (get_or b j no_span) → value_at (s ++ w) b j ≡ value_at s b j

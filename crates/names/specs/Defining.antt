@@ -30,7 +30,8 @@ pub record Roomy (names : Names) : Type 0 where
   pub layouts : names.layouts ≤ most_layouts
 
 -- The group of the name w, `$` with it, and of a row: refused, and nothing is changed; or the name is copied behind the text and listed. If the row is that of
--- some words, there is one group more, with these words, for every profile and all groups that the table, or the names, are held for.
+-- some words, there is one group more, with these words, for every profile and all groups that the table, or the names, are held for. Where there was room for all
+-- groups that may come, a name of a word's length leaves room for those that may still come.
 pub record Defines (w : Text) (row : Row) (names names' : Names) (r : Result (Unit {0}) Fault) : Type 0 where
   pub kept : IsErr r → (names' ≡ names) × (r ≡ Err BadGroup)
   pub few : IsOk r → names.groups < most_groups

@@ -75,14 +75,14 @@ pub record AllValuesPlaced (x : Texts) (b : List Span) : Type 0 where
   pub layouts : FieldsAt x.layouts (length x.model) 1 b
   pub variants : FieldsAt x.variants (length x.model + length x.layouts) 33 b
 
--- the values from the number `first` up to `end` have no place; the other places are as they were
+-- the values from the number `first` up to `end` are empty, at the start of the four texts; the other places are as they were
 pub record Unplaced (first end : ℕ) (b b' : List Span) : Type 0 where
   pub size : length b' ≡ length b
   pub here : (j : ℕ) → first ≤ j → j < end → get_or b' j no_span ≡ no_span
   pub before : (i : ℕ) → i < first → get_or b' i no_span ≡ get_or b i no_span
   pub beyond : (i : ℕ) → end ≤ i → get_or b' i no_span ≡ get_or b i no_span
 
--- the model, the layouts and the variants have theirs, and a value that has no field has none
+-- the same, but that a value that has no field is empty at the start of the four texts
 pub record ValuesPlaced (x : Texts) (b : List Span) : Type 0 where
   pub size : length b ≡ most_values
   pub model : get_or b 0 no_span ≡ record { start = 0; end = length x.model }

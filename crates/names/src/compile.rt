@@ -101,7 +101,7 @@ impl Names {
     ghost use Rattle.names.specs.Ready.{Ready};
     ghost use Rattle.names.specs.Defining.{Roomy};
 
-    // A profile that is not refused, with no group yet, in place of what was held, and with room for the names of 64 groups.
+    // A profile that is not refused, with no group yet, in place of what was held, with room for the names of 64 groups.
     pub fn compile(&mut self, texts: &Texts)
         requires { profile_refusals texts.now ≡ [] }
         ensures { Ready texts.now [] self.new × Roomy self.new }

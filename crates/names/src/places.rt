@@ -52,7 +52,7 @@ pub fn place_all_values(texts: &Texts) -> [Span; 65]
     bounds
 }
 
-// The values from the number `first` up to `end` have no place.
+// The values from the number `first` up to `end` are empty, at the start of the four texts; the other places are left as they are.
 fn unplace(first: usize, end: usize, bounds: &mut [Span; 65])
     requires { (first ≤ end) × (end ≤ 65) }
     ensures { Unplaced first end bounds.old bounds.new }
@@ -62,7 +62,7 @@ fn unplace(first: usize, end: usize, bounds: &mut [Span; 65])
     }
 }
 
-// The same of a profile that is not refused, but that a value that has no field has no place.
+// The same of a profile that is not refused, but that a value that has no field is empty at the start of the four texts.
 pub fn place_values(texts: &Texts) -> [Span; 65]
     requires { profile_refusals texts.now ≡ [] }
     ensures { ValuesPlaced texts.now result }

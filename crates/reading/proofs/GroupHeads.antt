@@ -108,7 +108,7 @@ module _ (s : Text) (names : Names) (r : Reading) (x : FirstWord) (h : AtGroup s
     entry : entry_of (line_of r.at.line true (line_words s x)) ≡ group (rest name) (members_in s x)
     entry = entry_any r.at.line true (line_words s x) ∙ (v.right z).0
 
-    name_short : length name ≤ longest_word
+    pub name_short : length name ≤ longest_word
     name_short = group_short name (left s x.end.at) _ _ (v.right z).0
 
     pub name_room : RoomForGroups names → RoomForName name names

@@ -31,7 +31,8 @@ abbrev pub going : Result (Unit {0}) Refusal → Result Bool Refusal
 going (Ok u) = Ok true
 going (Err e) = Err e
 
--- A group is defined, or a set opened; or it is refused, and nothing is changed. The scratch and the buffer are not looked at.
+-- A group is defined, or a set opened; or it is refused, and nothing is changed. Where rules were held to at most four columns, they still are. The scratch and
+-- the buffer are not looked at.
 pub record HeadRead (s : Text) (names names' : Names) (r r' : Reading) (o : Result (Unit {0}) Refusal) : Type 0 where
   pub kept : NamesKept names names'
   pub refused : IsErr o → (names' ≡ names) × (r' ≡ r)
