@@ -32,23 +32,22 @@ fn missing_values(rt: HostRuntime) -> Result<(), Fail> {
     texts.check()?;
     let some = place_values(&texts);
     let all = place_all_values(&texts);
-    // number, then start and end of the place in `pc105us,de,neo`; of a value that has no field, and in the second where its text ends
+    // the value's number, and its place in `pc105us,de,neo` by each
     let wanted = [
-        (0, 0, 5, 5),
-        (1, 5, 7, 7),
-        (2, 8, 10, 10),
-        (3, 0, 0, 10),
-        (32, 0, 0, 10),
-        (33, 10, 10, 10),
-        (34, 11, 14, 14),
-        (35, 0, 0, 14),
-        (64, 0, 0, 14),
+        (0, (0, 5), (0, 5)),
+        (1, (5, 7), (5, 7)),
+        (2, (8, 10), (8, 10)),
+        (3, (0, 0), (10, 10)),
+        (32, (0, 0), (10, 10)),
+        (33, (10, 10), (10, 10)),
+        (34, (11, 14), (11, 14)),
+        (35, (0, 0), (14, 14)),
+        (64, (0, 0), (14, 14)),
     ];
-    for (j, start, end, last) in wanted {
+    for (j, place, place_in_all) in wanted {
         assert!(rt; j < 65);
-        assert_eq!(rt; some[j].start, start, "at {j}");
-        assert_eq!(rt; some[j].end, end, "at {j}");
-        assert_eq!(rt; all[j].end, last, "at {j}");
+        assert_eq!(rt; (some[j].start, some[j].end), place, "at {j}");
+        assert_eq!(rt; (all[j].start, all[j].end), place_in_all, "at {j}");
     }
     Ok(())
 }

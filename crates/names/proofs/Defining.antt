@@ -1,5 +1,5 @@
 -- A group is defined: refused, or one group more.
-use Rattle.std.proofs.Common.{◌≡◌, ◌+◌, ◌-◌, ◌≤◌, ◌<◌, Bool, true, false, ◌||◌, leb, [], ◌∷◌, ◌++◌, length, length-append, Ok, Err, refl, sym, ap, ◌∙◌, arith}
+use Rattle.std.proofs.Common.{◌≡◌, ◌+◌, ◌-◌, ◌≤◌, ◌<◌, Bool, true, false, ◌||◌, leb, [], ◌∷◌, ◌++◌, length, length-append, Result, Ok, Err, refl, sym, ap, ◌∙◌, arith}
 use borrow.Author.Tests.{eqb-true, lt-leb}
 use Rattle.text.specs.Limits.{most_groups, longest_word}
 use Rattle.text.specs.Bytes.{Text, Words, same, first, rest, all_of, any_of}
@@ -10,12 +10,13 @@ use Rattle.rules.specs.Words.{has_dollar, ordinary}
 use Rattle.rules.specs.Faults.{Group, Groups, defined}
 use Rattle.listing.specs.Names.{text_size}
 use Rattle.listing.specs.Lists.{text_of, names_of}
+use Rattle.text.specs.declared.faults.Fault.{Fault}
 use Rattle.names.specs.declared.Row.{Row}
 use Rattle.names.specs.declared.Names.{Names}
 use Rattle.names.specs.Rows.{asks}
 use Rattle.names.specs.Compiled.{Joined, Renewed, NewRow}
 use Rattle.names.specs.Ready.{NoProfile, TableReady, Ready}
-use Rattle.names.specs.Defining.{RoomForName, Roomy, Defines}
+use Rattle.names.specs.Defining.{RoomForName, RoomForGroups, Roomy, Defines}
 use Rattle.names.proofs.GroupMatches.{group_others, group_this}
 use Rattle.names.proofs.Renewing.{compiled_new}
 use Rattle.names.proofs.Placing.{values_longer}
@@ -38,8 +39,8 @@ pub fits_has_room : (w : Text) (names : Names) → length w ≤ text_size - name
 fits_has_room w names h few fresh = omega (arith, names.table.list.room)
 
 -- where there is room for all groups that may come, there is for each
-pub room_for_name : (w : Text) (names : Names) → Roomy names → length w ≤ longest_word → RoomForName w names
-room_for_name w names v h few fresh = omega (arith, v.room, h)
+pub room_for_name : (w : Text) (names : Names) → RoomForGroups names → length w ≤ longest_word → RoomForName w names
+room_for_name w names v h few fresh = omega (arith, v, h)
 
 -- before a profile is compiled there is room
 pub new_roomy : (names : Names) → NoProfile names → Roomy names
@@ -49,6 +50,15 @@ new_roomy names v =
       limit = omega (arith, v.groups);
       layouts = omega (arith, v.layouts);
     }
+
+-- a group of a word's length leaves the room
+pub defined_roomy : (w : Text) (row : Row) (names names' : Names) (r : Result (Unit {0}) Fault) → Defines w row names names' r → length w ≤ longest_word →
+    Roomy names → Roomy names'
+defined_roomy w row names names' r d h v = record { room = d.room (omega (arith, h)) v.room; limit = limit r d; layouts = rw d.values.1 v.layouts }
+  where
+    limit : (o : Result (Unit {0}) Fault) → Defines w row names names' o → names'.groups ≤ most_groups
+    limit (Ok u) e = omega (arith, e.few refl, e.number refl)
+    limit (Err f) e = rw (e.kept refl).0 v.limit
 
 module _ (w : Text) (h : has_dollar w ≡ true) (row : Row) (names : Names) where
   -- whether the name is listed already
@@ -67,7 +77,7 @@ module _ (w : Text) (h : has_dollar w ≡ true) (row : Row) (names : Names) wher
 
   -- nothing is changed
   kept_all : ((x : Texts) (gs : Groups) → TableReady x gs names.table → names.groups ≡ length gs → true ≡ defined gs (rest w) || leb most_groups (length gs)) → Defines w row names names (Err BadGroup)
-  kept_all f = record { kept = λ z. (refl, refl); few = λ z. absurd (no z); number = λ z. absurd (no z); count = λ z. absurd (no z); text = λ z. absurd (no z); values = (refl, refl); roomy = λ z v. v; refusal = f; table = λ z. absurd (no z); more = λ z. absurd (no z) }
+  kept_all f = record { kept = λ z. (refl, refl); few = λ z. absurd (no z); number = λ z. absurd (no z); count = λ z. absurd (no z); text = λ z. absurd (no z); values = (refl, refl); room = λ z v. v; refusal = f; table = λ z. absurd (no z); more = λ z. absurd (no z) }
 
   module _ (r : Bool) (e : r ≡ any_of (same w) (names_of names.table.list)) where
     pub defines_twice : r ≡ true → Defines w row names names (Err BadGroup)
@@ -114,16 +124,6 @@ module _ (w : Text) (h : has_dollar w ≡ true) (row : Row) (names : Names) wher
             layouts = kept.1 ∙ v.layouts;
           }
 
-      roomy_still : length w ≤ longest_word → Roomy names → Roomy names'
-      roomy_still z v =
-          let t : length (text_of names'.table.list) ≡ length (text_of names.table.list) + length w =
-          ap length u.text ∙ length-append (text_of names.table.list) w in
-          record {
-            room = omega (arith, t, names.table.list.long, names'.table.list.long, v.room, z, few, grown);
-            limit = omega (arith, few, grown);
-            layouts = rw kept.1 v.layouts;
-          }
-
       pub defines_more : Defines w row names names' (Ok (tt {0}))
       defines_more =
           record {
@@ -133,7 +133,10 @@ module _ (w : Text) (h : has_dollar w ≡ true) (row : Row) (names : Names) wher
             count = λ z. u.count;
             text = λ z. u.text;
             values = kept;
-            roomy = λ z v. roomy_still z v;
+            room = λ z v.
+                let t : length (text_of names'.table.list) ≡ length (text_of names.table.list) + length w =
+                ap length u.text ∙ length-append (text_of names.table.list) w in
+                omega (arith, t, names.table.list.long, names'.table.list.long, v, z, few, grown);
             refusal = λ x gs v n. not_refused r e x gs v f few n;
             table = λ z x gs ms v a j. group_table x gs ms v a j;
             more = λ z x gs ms v a j. group_ready x gs ms v a j;

@@ -18,7 +18,7 @@ use Rattle.listing.specs.declared.names.Listing.{Listing}
 use Rattle.listing.specs.Lists.{text_of, Empty, Appended}
 use Rattle.listing.proofs.Finding.{part_longer}
 use Rattle.names.specs.declared.table.Table.{Table}
-use Rattle.names.specs.Placing.{four_texts, ShortTexts, TextsCopied, Lies, field_start, EmptyAt, FieldPlace, Emptied, FieldsPlaced, AllValuesPlaced, Unplaced, ValuesPlaced}
+use Rattle.names.specs.Placing.{four_texts, ShortTexts, TextsCopied, Lies, field_start, EmptyAt, FieldPlace, Emptied, FieldsPlaced, AllValuesPlaced, ValuesPlaced}
 use Rattle.names.proofs.Fields.{field_in, start_first, start_next}
 
 pub whole_part : (w : Text) → part w 0 (length w) ≡ w
@@ -142,7 +142,7 @@ module _ (o : Text) (base first : ℕ) (b₀ : List Span) where
             rw (get_or-set_other b (first + n) (first + j) (record { start = start; end = start + length f }) no_span (λ (x : first + j ≡ first + n). d (omega arith)))
             (g.done j (omega arith))
 
-    pub placing_end : ((j : ℕ) → j < 32 → j < length (fields o) → j < n) → (b₁ : List Span) → Emptied (base + length o) first b₁ b₀ → FieldsPlaced o base first b₁ b
+    pub placing_end : ((j : ℕ) → j < 32 → j < length (fields o) → j < n) → (b₁ : List Span) → Emptied (base + length o) first (first + 32) b₁ b₀ → FieldsPlaced o base first b₁ b
     placing_end all b₁ u =
         record {
           size = g.size ∙ u.size;
@@ -261,7 +261,7 @@ module _ (x : Texts) (h : profile_refusals x ≡ []) where
 
   -- where those that have no field are empty at the start
   pub values_placed : (b b' b'' : List Span) (n m : ℕ) → n ≡ length (fields x.layouts) → m ≡ length (fields x.variants) → AllValuesPlaced x b →
-      Unplaced (1 + n) 33 b b' → Unplaced (33 + m) most_values b' b'' → ValuesPlaced x b''
+      Emptied 0 (1 + n) 33 b b' → Emptied 0 (33 + m) most_values b' b'' → ValuesPlaced x b''
   values_placed b b' b'' n m e f p u v =
       record {
         size = v.size ∙ (u.size ∙ p.size);

@@ -31,7 +31,7 @@ pub record Roomy (names : Names) : Type 0 where
 
 -- The group of the name w, `$` with it, and of a row: refused, and nothing is changed; or the name is copied behind the text and listed. If the row is that of
 -- some words, there is one group more, with these words, for every profile and all groups that the table, or the names, are held for. Where there was room for all
--- groups that may come, a name of a word's length leaves room for those that may still come.
+-- groups that may come, a name of a word's length leaves room for the others.
 pub record Defines (w : Text) (row : Row) (names names' : Names) (r : Result (Unit {0}) Fault) : Type 0 where
   pub kept : IsErr r → (names' ≡ names) × (r ≡ Err BadGroup)
   pub few : IsOk r → names.groups < most_groups
@@ -39,7 +39,7 @@ pub record Defines (w : Text) (row : Row) (names names' : Names) (r : Result (Un
   pub count : IsOk r → names'.table.list.count ≡ names.table.list.count + 1
   pub text : IsOk r → text_of names'.table.list ≡ text_of names.table.list ++ w
   pub values : (names'.bounds ≡ names.bounds) × (names'.layouts ≡ names.layouts)
-  pub roomy : length w ≤ longest_word → Roomy names → Roomy names'
+  pub room : length w ≤ longest_word → RoomForGroups names → RoomForGroups names'
   pub refusal : (x : Texts) (gs : Groups) → TableReady x gs names.table → names.groups ≡ length gs → is_err r ≡ defined gs (rest w) || leb most_groups (length gs)
   pub table : IsOk r → (x : Texts) (gs : Groups) (ms : Words) → TableReady x gs names.table → all_of ordinary ms ≡ true → Joined names.table ms row →
       TableReady x (record { name = rest w; members = ms } ∷ gs) names'.table

@@ -48,12 +48,12 @@ pub record FieldPlace (fs : List Text) (base j : ℕ) (p : Span) : Type 0 where
 abbrev pub EmptyAt : ℕ → Span → Type 0
 EmptyAt at p = p ≡ record { start = at; end = at }
 
--- 32 values are empty, from the number `first` on; the other places are as they were
-pub record Emptied (at first : ℕ) (b b' : List Span) : Type 0 where
+-- the values from the number `first` up to `end` are empty; the other places are as they were
+pub record Emptied (at first end : ℕ) (b b' : List Span) : Type 0 where
   pub size : length b' ≡ length b
-  pub here : (j : ℕ) → first ≤ j → j < first + 32 → EmptyAt at (get_or b' j no_span)
+  pub here : (j : ℕ) → first ≤ j → j < end → EmptyAt at (get_or b' j no_span)
   pub before : (i : ℕ) → i < first → get_or b' i no_span ≡ get_or b i no_span
-  pub beyond : (i : ℕ) → first + 32 ≤ i → get_or b' i no_span ≡ get_or b i no_span
+  pub beyond : (i : ℕ) → end ≤ i → get_or b' i no_span ≡ get_or b i no_span
 
 -- The first 32 fields have their places, from the value number `first` on; a value that has no field is empty, where
 -- the text ends.
@@ -74,13 +74,6 @@ pub record AllValuesPlaced (x : Texts) (b : List Span) : Type 0 where
   pub model : get_or b 0 no_span ≡ record { start = 0; end = length x.model }
   pub layouts : FieldsAt x.layouts (length x.model) 1 b
   pub variants : FieldsAt x.variants (length x.model + length x.layouts) 33 b
-
--- the values from the number `first` up to `end` are empty, at the start of the four texts; the other places are as they were
-pub record Unplaced (first end : ℕ) (b b' : List Span) : Type 0 where
-  pub size : length b' ≡ length b
-  pub here : (j : ℕ) → first ≤ j → j < end → get_or b' j no_span ≡ no_span
-  pub before : (i : ℕ) → i < first → get_or b' i no_span ≡ get_or b i no_span
-  pub beyond : (i : ℕ) → end ≤ i → get_or b' i no_span ≡ get_or b i no_span
 
 -- the same, but that a value that has no field is empty at the start of the four texts
 pub record ValuesPlaced (x : Texts) (b : List Span) : Type 0 where

@@ -3,7 +3,7 @@ ghost use Rattle.std.specs.Prelude.{◌≡◌, ◌||◌, ◌&&◌, [], ℕ, ◌+
 ghost use Rattle.text.specs.Limits.{longest_text};
 ghost use Rattle.profile.specs.Refusals.{profile_refusals};
 ghost use Rattle.bitsets.specs.Sets.{is_in};
-ghost use Rattle.names.specs.Placing.{Emptied, FieldsPlaced, AllValuesPlaced, Unplaced, ValuesPlaced, SomeSet};
+ghost use Rattle.names.specs.Placing.{Emptied, FieldsPlaced, AllValuesPlaced, ValuesPlaced, SomeSet};
 
 use bitsets::with;
 use profile::fields::field_count;
@@ -13,7 +13,7 @@ use text::Span;
 // 32 values are empty, from the number `first` on, each at `at`; the other places are left as they are.
 fn empty_places(at: usize, first: usize, bounds: &mut [Span; 65])
     requires { first ≤ 33 }
-    ensures { Emptied at first bounds.old bounds.new }
+    ensures { Emptied at first (first + 32) bounds.old bounds.new }
 {
     for j in first..first + 32 {
         bounds[j] = Span { start: at, end: at };
@@ -52,17 +52,18 @@ pub fn place_all_values(texts: &Texts) -> [Span; 65]
     bounds
 }
 
-// The values from the number `first` up to `end` are empty, at the start of the four texts; the other places are left as they are.
+// The values from the number `first` up to `end` are empty, at the start of the four texts. Not by `empty_places`: were its end an argument, the machine code of the
+// whole reading would change.
 fn unplace(first: usize, end: usize, bounds: &mut [Span; 65])
     requires { (first ≤ end) × (end ≤ 65) }
-    ensures { Unplaced first end bounds.old bounds.new }
+    ensures { Emptied 0 first end bounds.old bounds.new }
 {
     for j in first..end {
         bounds[j] = Span { start: 0, end: 0 };
     }
 }
 
-// The same of a profile that is not refused, but that a value that has no field is empty at the start of the four texts.
+// The same places, of a profile that is not refused, but that a value that has no field is empty at the start of the four texts.
 pub fn place_values(texts: &Texts) -> [Span; 65]
     requires { profile_refusals texts.now ≡ [] }
     ensures { ValuesPlaced texts.now result }

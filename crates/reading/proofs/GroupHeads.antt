@@ -1,10 +1,10 @@
 -- A group line: refused, or one group more.
-use Prim.Native.Nat.{ℕ, ◌+◌, ◌≤◌}
+use Prim.Native.Nat.{ℕ, ◌≤◌}
 use native.Mathlib.Omega.{arith}
 use mathlib.Core.Path.{◌≡◌, refl, sym, ap, ◌∙◌}
 use mathlib.Core.List.{◌∷◌}
 use mathlib.Core.Bool.{Bool, true, false, cond}
-use lib.ListN.{length, length-append}
+use lib.ListN.{length}
 use lib.Dec.{eqb, ltb}
 use borrow.Author.Tests.{eqb-true, eqb-false, ne_eqb, ltb-false}
 use Rattle.text.specs.Limits.{longest_word}
@@ -26,9 +26,9 @@ use Rattle.rules.specs.Checking.{line_of, no_heading, check_from}
 use Rattle.rules.proofs.CheckSteps.{entry_any}
 use Rattle.firing.specs.Writing.{run_buf, run_cur}
 use Rattle.names.specs.declared.Names.{Names}
-use Rattle.listing.specs.Lists.{text_of}
 use Rattle.names.specs.Ready.{Ready}
 use Rattle.names.specs.Defining.{RoomForName, RoomForGroups, Defines}
+use Rattle.names.proofs.Defining.{room_for_name}
 use Rattle.judging.specs.declared.FirstWord.{FirstWord}
 use Rattle.judging.specs.declared.GroupLine.{GroupLine}
 use Rattle.judging.specs.Groups.{DollarFound, DollarWord, line_words, members_in, GroupLineOf}
@@ -112,7 +112,7 @@ module _ (s : Text) (names : Names) (r : Reading) (x : FirstWord) (h : AtGroup s
     name_short = group_short name (left s x.end.at) _ _ (v.right z).0
 
     pub name_room : RoomForGroups names → RoomForName name names
-    name_room room few fresh = omega (arith, room, name_short)
+    name_room room = room_for_name name names room name_short
 
     module _ (names' : Names) (e : Result (Unit {0}) Fault) (q : Defines name g.row names names' e) where
       pub group_twice : (f : Fault) → e ≡ Err f → HeadRead s names names' r r (Err (record { fault = f; place = r.at.line }))
@@ -129,10 +129,7 @@ module _ (s : Text) (names : Names) (r : Reading) (x : FirstWord) (h : AtGroup s
         grouped = record { at = g.next; set = closed_set no_heading r.set.set; places = r.places; cursors = r.cursors }
 
         room_left : RoomForGroups names → RoomForGroups names'
-        room_left room =
-            let t : length (text_of names'.table.list) ≡ length (text_of names.table.list) + length name =
-            ap length (q.text (rw i refl)) ∙ length-append (text_of names.table.list) name in
-            omega (arith, t, names.table.list.long, names'.table.list.long, room, name_short, q.few (rw i refl), q.number (rw i refl))
+        room_left = q.room name_short
 
         names_kept : NamesKept names names'
         names_kept = record { places = q.values.0; layouts = q.values.1; room = room_left; limit = λ v. omega (arith, q.few (rw i refl), q.number (rw i refl)) }

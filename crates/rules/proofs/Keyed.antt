@@ -34,7 +34,7 @@ swap true b c = refl
 swap false true c = refl
 swap false false c = refl
 
-pub same_reads : (w k : Text) → same w k ≡ (eqb (length w) (length k) && reads w k 0)
+same_reads : (w k : Text) → same w k ≡ (eqb (length w) (length k) && reads w k 0)
 unfolding same
 same_reads [] [] = refl
 same_reads [] (b ∷ k) = rw (ne_eqb 0 (length (b ∷ k)) (λ e. omega arith)) refl

@@ -13,7 +13,7 @@ pub compile-requires : goal.compile-requires
 compile-requires g c = profile_clear _ c.in_ok-check.ensures
 
 pub define_group-requires : goal.define_group-requires
-define_group-requires g c = (room_for_name _ _ c.compile.ensures.1 (omega arith), own)
+define_group-requires g c = (room_for_name _ c.compile.new.self c.compile.ensures.1.room (omega arith), own)
 
 pub define_group-requires-2 : goal.define_group-requires-2
-define_group-requires-2 g c = (room_for_name _ _ (c.define_group.ensures.roomy (omega arith) c.compile.ensures.1) (omega arith), own)
+define_group-requires-2 g c = (room_for_name _ c.define_group.new.self (c.define_group.ensures.room (omega arith) c.compile.ensures.1.room) (omega arith), own)
